@@ -1,0 +1,132 @@
+-- `record::vehicle::first_bad` meets its contract: the records before `i` are good, and so are the fields before `f` of the record at `i`. Assumes nothing.
+use Prim.Native.Nat.{ℕ, _≤_, _-_}
+use mathlib.Core.Path.{_≡_, refl, sym, ap, subst, _∙_}
+use mathlib.Core.Bool.{true, false}
+use mathlib.Core.List.{List}
+use mathlib.Core.Logic.{⊎-elim}
+use native.Mathlib.Omega.{arith}
+use borrow.Author.Needs.{needs}
+use borrow.Author.Tests.{not-true, not-false}
+use denote.Ref.{now}
+use lib.ListN.{length, take}
+use Rattle.record.specs.Words.{all}
+use Rattle.record.specs.Records.{records, count}
+use Rattle.record.specs.Vehicles.{fields, fieldGood, good}
+use Rattle.record.specs.declared.vehicle.Found.the-variants.{At}
+use Rattle.record.proofs.Records.{part-record, record-length}
+use Rattle.record.proofs.Vehicles.{fields-more, fields-good, fields-bad, records-more, bad-first, bad-none}
+use Rattle.record.proofs.vehicle.first_bad.Statement.{statement}
+use Rattle.record.proofs.vehicle.first_bad.Tie as tie
+
+abbrev Inv-loop : tie.InvT-loop
+Inv-loop file n i at bytes f₀ f = (f ≤ 13) × (all (fieldGood bytes) (take f fields) ≡ true)
+
+abbrev μ-loop : tie.MeasureT-loop
+μ-loop file n i at bytes f₀ f = 13 - f
+
+abbrev Inv-records : tie.InvT-records
+Inv-records file n i₀ i = (i ≤ n) × (all good (records i file) ≡ true)
+
+abbrev μ-records : tie.MeasureT-records
+μ-records file n i₀ i = n - i
+
+records-holds : tie.Need-records-holds Inv-loop μ-loop Inv-records μ-records
+unfolding all records
+records-holds c = (omega arith, refl)
+
+mul-at : tie.Need-mul-at Inv-loop μ-loop Inv-records μ-records
+mul-at c = omega arith
+
+add-bytes : tie.Need-add-bytes Inv-loop μ-loop Inv-records μ-records
+add-bytes c = omega arith
+
+sub-bytes : tie.Need-sub-bytes Inv-loop μ-loop Inv-records μ-records
+sub-bytes c = omega arith
+
+part-bytes-start : tie.Need-part-bytes-start Inv-loop μ-loop Inv-records μ-records
+part-bytes-start c = omega arith
+
+part-bytes-end : tie.Need-part-bytes-end Inv-loop μ-loop Inv-records μ-records
+part-bytes-end c = omega arith
+
+loop-holds : tie.Need-loop-holds Inv-loop μ-loop Inv-records μ-records
+unfolding all
+loop-holds c = (omega arith, refl)
+
+is-in-range-requires : tie.Need-is-in-range-requires Inv-loop μ-loop Inv-records μ-records
+is-in-range-requires c κs = search needs
+
+add-f : tie.Need-add-f Inv-loop μ-loop Inv-records μ-records
+add-f c = omega arith
+
+loop-less : tie.Need-loop-less Inv-loop μ-loop Inv-records μ-records
+loop-less c = omega arith
+
+loop-again : tie.Need-loop-again Inv-loop μ-loop Inv-records μ-records
+loop-again c =
+    let l = c .before .before .before .loop in
+    let e = sym (c .before .is-in-range .ensures) ∙ not-false _ (c .if2 .left) in
+    (omega arith, fields-more _ (l .f) (c .before .before .loop-test .taken) (l .inv .1) e)
+
+add-i : tie.Need-add-i Inv-loop μ-loop Inv-records μ-records
+add-i c = omega arith
+
+records-less : tie.Need-records-less Inv-loop μ-loop Inv-records μ-records
+records-less c = omega arith
+
+records-again : tie.Need-records-again Inv-loop μ-loop Inv-records μ-records
+records-again c =
+    let o = c .before .before .before .before .records in
+    let l = c .before .loop in
+    let s = now (c .before .before .before .before .before .before .args .file) in
+    let r = part-record s (o .i) in
+    let g = fields-good _ (l .f) (ap length r ∙ record-length s (o .i) (omega arith)) (omega arith) (l .inv .1) in
+    (omega arith, records-more s (o .i) (o .inv .1) (subst (λ (x : List ℕ). good x ≡ true) r g))
+
+returns : tie.Need-returns Inv-loop μ-loop Inv-records μ-records
+returns c =
+    let o = c .before .before .records in
+    let s = now (c .before .before .before .before .args .file) in
+    ⊎-elim
+    (λ w. absurd (omega arith))
+    (λ w.
+    let e = fields-bad _ (w .2 .f) (w .3 .taken) (sym (w .4 .ensures) ∙ not-true _ (w .5 .taken)) in
+    ap At (w .6) ∙ sym (bad-first _ (o .i) s (omega arith) (o .inv .1) (subst (λ (x : List ℕ). good x ≡ false) (part-record s (o .i)) e)))
+    (c .before .if1 .came)
+
+returns-2 : tie.Need-returns-2 Inv-loop μ-loop Inv-records μ-records
+returns-2 c =
+    let o = c .before .before .records in
+    let s = now (c .before .before .before .before .args .file) in
+    ⊎-elim
+    (λ w.
+    let z : o .i ≡ count s = omega arith in
+    let g = o .inv .1 in
+    sym (bad-none (records (count s) s) (rw z at g)))
+    (λ w. absurd (omega arith))
+    (c .before .if1 .came)
+
+pub first-bad-spec : {M : Type 1} → statement M
+first-bad-spec =
+    tie.close
+    (tie.spec
+    Inv-loop
+    μ-loop
+    Inv-records
+    μ-records
+    records-holds
+    mul-at
+    add-bytes
+    sub-bytes
+    part-bytes-start
+    part-bytes-end
+    loop-holds
+    is-in-range-requires
+    add-f
+    loop-less
+    loop-again
+    add-i
+    records-less
+    records-again
+    returns
+    returns-2)

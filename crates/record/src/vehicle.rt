@@ -1,0 +1,105 @@
+// Reading a vehicle record, and the scan for the first bad one.
+ghost use mathlib.Core.Path.{_≡_};
+ghost use Prim.Native.Nat.{_<_, _≤_};
+ghost use lib.ListN.{length};
+ghost use Rattle.record.specs.Records.{recordsOf};
+ghost use Rattle.record.specs.Vehicles.{nth, value, vehicle, reading, firstBad};
+use crate::field::FIELDS;
+use crate::field::is_in_range;
+use crate::field::value_of;
+
+pub struct Vehicle {
+    pub number: u64,
+    pub mass: u32,
+    pub vmass: u32,
+    pub mmass: u32,
+    pub length: u32,
+    pub axles: u32,
+    pub kind: u32,
+    pub setting: u32,
+    pub joined: u32,
+    pub speed: u32,
+    pub matrossow: u32,
+    pub dload: u32,
+}
+
+pub enum Reading {
+    Good(Vehicle),
+    Bad,
+}
+
+pub enum Found {
+    At(usize),
+    Nothing,
+}
+
+// The bytes of a record.
+pub const SIZE: usize = 24;
+
+// The place of the first record with a field out of range.
+pub fn first_bad(file: &[u8]) -> Found
+    ensures { λ r. ⌜ r ≡ firstBad (recordsOf (now (file .entry))) ⌝ }
+{
+    let n = file.len() / SIZE;
+    let mut i = 0;
+    let place = 'records: loop {
+        if n <= i {
+            break 'records n;
+        }
+        let at = SIZE * i;
+        let bytes = &file[at..at + SIZE];
+        let mut f = 0;
+        while f < FIELDS {
+            if !is_in_range(bytes, f) {
+                break 'records i;
+            }
+            f += 1;
+        }
+        i += 1;
+    };
+    if place < n {
+        return Found::At(place);
+    }
+    Found::Nothing
+}
+
+// The number in a field of at most two bytes.
+fn small_of(bytes: &[u8], f: usize) -> u32
+    requires { ⌜ (f < 13) × ((nth f .width ≤ 2) × (24 ≤ length (now bytes))) ⌝ }
+    ensures { λ r. ⌜ r ≡ value (now (bytes .entry)) (nth f) ⌝ }
+{
+    value_of(bytes, f) as u32
+}
+
+fn vehicle_of(bytes: &[u8]) -> Vehicle
+    requires { ⌜ 24 ≤ length (now bytes) ⌝ }
+    ensures { λ r. ⌜ r ≡ vehicle (now (bytes .entry)) ⌝ }
+{
+    Vehicle {
+        number: value_of(bytes, 0),
+        mass: small_of(bytes, 1),
+        vmass: small_of(bytes, 2),
+        mmass: small_of(bytes, 3),
+        length: small_of(bytes, 4),
+        axles: small_of(bytes, 5),
+        kind: small_of(bytes, 6),
+        setting: small_of(bytes, 7),
+        joined: small_of(bytes, 8),
+        speed: small_of(bytes, 9),
+        matrossow: small_of(bytes, 10),
+        dload: small_of(bytes, 11),
+    }
+}
+
+// What a record says, where it is good.
+pub fn read(bytes: &[u8]) -> Reading
+    ensures { λ r. ⌜ r ≡ reading (now (bytes .entry)) ⌝ }
+{
+    if bytes.len() != SIZE {
+        return Reading::Bad;
+    }
+    match first_bad(bytes) {
+        Found::Nothing => Reading::Good(vehicle_of(bytes)),
+        Found::At(_) => Reading::Bad,
+    }
+}
