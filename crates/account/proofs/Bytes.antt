@@ -1,0 +1,122 @@
+-- Portions lent as bytes and cut between records: what they are answered, joined in any grouping. Assumes nothing.
+use Prim.Native.Nat.{ℕ, _%_, _≤_}
+use native.Mathlib.Omega.{arith}
+use mathlib.Core.Path.{_≡_, refl, sym, ap, ap₂, _∙_, subst}
+use mathlib.Core.Bool.{Bool, true, false, not, _||_, cond, false≢true}
+use mathlib.Core.List.{List, [], _∷_, _++_, map}
+use borrow.Author.Tests.{eqb-true, eqb-false, ltb-false, not-false}
+use lib.Dec.{ltb, eqb}
+use lib.ListN.{length, length-append, length-map}
+use Rattle.record.specs.Words.{all}
+use Rattle.record.specs.Records.{count, recordsOf}
+use Rattle.record.specs.Vehicles.{good, vehicle, vehicles, firstBad, isWorking}
+use Rattle.record.specs.declared.vehicle.Vehicle.{Vehicle}
+use Rattle.record.specs.declared.vehicle.Found.{Found}
+use Rattle.record.specs.declared.vehicle.Found.the-variants.{At, Nothing}
+use Rattle.record.proofs.Records.{length-records, records-append}
+use Rattle.record.proofs.Vehicles.{both, all-append, bad-is, bad-none, isNothing, vehicles-append}
+use Rattle.account.specs.Figures.{some}
+use Rattle.account.specs.Accounts.{accountOf}
+use Rattle.account.specs.Ceilings.{Every}
+use Rattle.account.specs.Answers.{badFieldOr}
+use Rattle.account.specs.Portions.{portionAnswer, accounted, joined}
+use Rattle.account.specs.Groupings.{GoodHauled, Portion, Grouping, portion, pair, uncut, joinedBytes, BetweenRecords}
+use Rattle.account.specs.declared.Accounted.{Accounted}
+use Rattle.account.specs.declared.Answer.{Answer}
+use Rattle.account.specs.declared.Answer.the-variants.{Done, NotWhole, TooMany, WorkingEngine}
+use Rattle.account.proofs.Ceils.{portion-left, portion-right}
+use Rattle.account.proofs.Joins.{joined-accounts, accepted}
+use Rattle.account.proofs.Portions.{good-hauled, answer-0, none-working}
+
+-- ---- a portion that is done is whole, few, good and hauled
+record Sound (bs : List ℕ) : Type 0 where
+  whole : length bs % 24 ≡ 0
+  fine : all good (recordsOf bs) ≡ true
+  hauled : Portion (vehicles bs)
+
+-- a test that refuses did not hold, and the next answer is the answer
+not-refused : (t : Bool) (refusal next : Answer) → (refusal ≡ Done → ⊥) → cond t refusal next ≡ Done → (t ≡ false) × (next ≡ Done)
+not-refused true refusal next h e = absurd (h e)
+not-refused false refusal next h e = (refl, e)
+
+not-bad : (f : Found) (next : Answer) → badFieldOr f next ≡ Done → (f ≡ Nothing) × (next ≡ Done)
+not-bad (At place) next e = absurd (let z : _≡_ {A = ℕ} 0 1 = cc in omega arith)
+not-bad Nothing next e = (refl, e)
+
+hauled-each : (rs : List (List ℕ)) → all good rs ≡ true → some isWorking (map vehicle rs) ≡ false → Every GoodHauled (map vehicle rs)
+unfolding all
+hauled-each [] g w = tt
+hauled-each (r ∷ rs) g w =
+    let t = both (good r) (all good rs) g in
+    let n = neither (isWorking (vehicle r)) (some isWorking (map vehicle rs)) w in
+    (good-hauled r (t .0) (eqb-false (vehicle r .kind) 2 (n .0)), hauled-each rs (t .1) (n .1))
+  where
+    neither : (p q : Bool) → (p || q) ≡ false → (p ≡ false) × (q ≡ false)
+    neither true q e = absurd (false≢true (sym e))
+    neither false q e = (refl, e)
+
+done-sound : (bs : List ℕ) → portionAnswer bs ≡ Done → Sound bs
+unfolding portionAnswer
+done-sound bs e =
+    let n1 = not-refused (not (eqb (length bs % 24) 0)) NotWhole _ (λ q. let z : _≡_ {A = ℕ} 0 1 = cc in omega arith) e in
+    let n2 = not-refused (ltb 200 (count bs)) TooMany _ (λ q. let z : _≡_ {A = ℕ} 0 1 = cc in omega arith) (n1 .1) in
+    let n3 = not-bad (firstBad (recordsOf bs)) _ (n2 .1) in
+    let n6 = not-refused (some isWorking (vehicles bs)) WorkingEngine Done (λ q. let z : _≡_ {A = ℕ} 0 1 = cc in omega arith) (n3 .1) in
+    let good = sym (bad-is (recordsOf bs)) ∙ ap isNothing (n3 .0) in
+    record {
+      whole = eqb-true (length bs % 24) 0 (not-false (eqb (length bs % 24) 0) (n1 .0));
+      fine = good;
+      hauled =
+          record {
+            each = hauled-each (recordsOf bs) good (n6 .0);
+            few = omega (arith, length-map (recordsOf bs) vehicle, length-records (count bs) bs, ltb-false 200 (count bs) (n2 .0));
+          };
+    }
+
+sound-done : (bs : List ℕ) → Sound bs → accounted bs ≡ accepted (accountOf (vehicles bs))
+sound-done bs s =
+    let few : count bs ≤ 200 = omega (arith, s .hauled .few, length-map (recordsOf bs) vehicle, length-records (count bs) bs) in
+    sym (answer-0 bs (s .whole) few (bad-none (recordsOf bs) (s .fine)) (none-working (vehicles bs) (s .hauled .each)))
+
+-- what is cut between records is whole
+between : (g : Grouping ℕ) → BetweenRecords g → length (uncut g) % 24 ≡ 0
+between (portion bs) c = c
+between (pair left right) c = omega (arith, length-append (uncut left) (uncut right), between left (c .0), between right (c .1))
+
+-- ---- two portions of a sound one
+module _ (a b : List ℕ) (cut : length a % 24 ≡ 0) (s : Sound (a ++ b)) where
+  both-portions : Portion (vehicles a ++ vehicles b)
+  both-portions = subst Portion (vehicles-append a b cut) (s .hauled)
+
+  both-fine : (all good (recordsOf a) ≡ true) × (all good (recordsOf b) ≡ true)
+  both-fine =
+      both (all good (recordsOf a)) (all good (recordsOf b))
+      (sym (all-append good (recordsOf a) (recordsOf b)) ∙ ap (all good) (sym (records-append a b cut)) ∙ s .fine)
+
+  sound-left : Sound a
+  sound-left = record { whole = cut; fine = both-fine .0; hauled = portion-left (vehicles a) (vehicles b) both-portions }
+
+  sound-right : Sound b
+  sound-right =
+      record {
+        whole = omega (arith, s .whole, length-append a b);
+        fine = both-fine .1;
+        hauled = portion-right (vehicles a) (vehicles b) both-portions;
+      }
+
+-- ---- any grouping
+sound-grouped : (g : Grouping ℕ) → BetweenRecords g → Sound (uncut g) → joinedBytes g ≡ accounted (uncut g)
+sound-grouped (portion bs) c s = refl
+sound-grouped (pair left right) c s =
+    let a = uncut left in
+    let b = uncut right in
+    let cut = between left (c .0) in
+    let l = sound-left a b cut s in
+    let r = sound-right a b cut s in
+    ap₂ (λ (x y : Accounted). joined (x .account) (y .account)) (sound-grouped left (c .0) l ∙ sound-done a l) (sound-grouped right (c .1) r ∙ sound-done b r)
+    ∙ joined-accounts (vehicles a) (vehicles b) (both-portions a b cut s)
+    ∙ ap (λ (xs : List Vehicle). accepted (accountOf xs)) (sym (vehicles-append a b cut))
+    ∙ sym (sound-done (a ++ b) s)
+
+pub bytes-grouped : (g : Grouping ℕ) → BetweenRecords g → portionAnswer (uncut g) ≡ Done → joinedBytes g ≡ accounted (uncut g)
+bytes-grouped g c e = sound-grouped g c (done-sound (uncut g) e)

@@ -1,0 +1,157 @@
+-- The ceilings: the test and the statement; and that at most 200 good hauled records are within them. Assumes nothing.
+use Prim.Native.Nat.{ℕ, zero, suc, _≤_, _<_}
+use native.Mathlib.Omega.{arith}
+use mathlib.Core.Path.{_≡_, refl, sym, ap, ap₂, _∙_}
+use mathlib.Core.Bool.{Bool, true, _&&_, cond, and-assoc, and-true}
+use mathlib.Core.List.{List, [], _∷_, _++_, map, reverse}
+use borrow.Author.Tests.{le-leb, leb-true}
+use lib.Dec.{leb}
+use lib.ListN.{take, replicate, getD, length-append, length-reverse}
+use Rattle.record.specs.Words.{all}
+use Rattle.record.specs.Vehicles.{value, nth, vehicle, isHauledEngine, isIsolated, isM, isV, hasDLoad}
+use Rattle.record.specs.declared.vehicle.Vehicle.{Vehicle}
+use Rattle.record.proofs.Vehicles.{both, at-most}
+use Rattle.account.specs.Figures.{firsts}
+use Rattle.account.specs.Accounts.{accountOf}
+use Rattle.account.specs.Ceilings.{Figure, _upTo_, figures, within, Every, Within}
+use Rattle.account.specs.Groupings.{GoodHauled, Portion}
+use Rattle.account.specs.declared.Account.{Account}
+use Rattle.account.proofs.Lists.{sum-le, count-le, cond-le, leading-le, longest-le, least-top, every-left, every-right}
+
+-- ---- the test and the statement, over any table of figures
+abbrev fits : Figure → Bool
+fits f = leb (f .figure) (f .ceiling)
+
+abbrev pub Fits : Figure → Type 0
+Fits f = f .figure ≤ f .ceiling
+
+all-every : (fs : List Figure) → all fits fs ≡ true → Every Fits fs
+unfolding all
+all-every [] e = tt
+all-every (f ∷ fs) e =
+    let t = both (fits f) (all fits fs) e in
+    (leb-true (f .figure) (f .ceiling) (t .0), all-every fs (t .1))
+
+every-all : (fs : List Figure) → Every Fits fs → all fits fs ≡ true
+unfolding all
+every-all [] e = refl
+every-all (f ∷ fs) e = ap₂ _&&_ (le-leb (f .figure) (f .ceiling) (e .0)) (every-all fs (e .1))
+
+pub within-test : (a : Account) → Within a → within a ≡ true
+unfolding within
+within-test a w = every-all (figures a) w
+
+pub test-within : (a : Account) → within a ≡ true → Within a
+unfolding within
+test-within a e = all-every (figures a) e
+
+-- the statement at one row of the table
+every-at : (fs : List Figure) → Every Fits fs → (k : ℕ) → Fits (getD fs k (0 upTo 0))
+every-at [] e k = omega arith
+every-at (f ∷ fs) e zero = e .0
+every-at (f ∷ fs) e (suc k) = every-at fs (e .1) k
+
+pub figure-at : (a : Account) → Within a → (k : ℕ) → Fits (getD (figures a) k (0 upTo 0))
+figure-at a w k = every-at (figures a) w k
+
+-- the test as code makes it, one comparison after the other
+abbrev pub chain : Bool → List Figure → Bool
+chain b [] = b
+chain b (f ∷ fs) = chain (b && fits f) fs
+
+chain-all : (b : Bool) (fs : List Figure) → chain b fs ≡ (b && all fits fs)
+unfolding all
+chain-all b [] = sym (and-true b)
+chain-all b (f ∷ fs) = chain-all (b && fits f) fs ∙ and-assoc b (fits f) (all fits fs)
+
+pub chain-within : (a : Account) → chain true (figures a) ≡ within a
+unfolding within
+chain-within a = chain-all true (figures a)
+
+-- ---- at most 200 good hauled records
+-- a field of a good record, by the table's high end
+field-le : (g : Vehicle → ℕ) (f : ℕ) → f < 13 → ((r : List ℕ) → g (vehicle r) ≡ value r (nth f)) → (v : Vehicle) → GoodHauled v → g v ≤ nth f .high
+field-le g f h same v good =
+    let e : g v ≡ value (good .bytes) (nth f) = ap g (good .says) ∙ same (good .bytes) in
+    omega (arith, at-most (good .bytes) (good .isGood) f h)
+
+mass-le : (v : Vehicle) → GoodHauled v → v .mass ≤ 2500
+unfolding vehicle
+mass-le = field-le (λ v. v .mass) 1 (omega arith) (λ r. refl)
+
+vmass-le : (v : Vehicle) → GoodHauled v → v .vmass ≤ 2500
+unfolding vehicle
+vmass-le = field-le (λ v. v .vmass) 2 (omega arith) (λ r. refl)
+
+mmass-le : (v : Vehicle) → GoodHauled v → v .mmass ≤ 2500
+unfolding vehicle
+mmass-le = field-le (λ v. v .mmass) 3 (omega arith) (λ r. refl)
+
+length-le : (v : Vehicle) → GoodHauled v → v .length ≤ 1000
+unfolding vehicle
+length-le = field-le (λ v. v .length) 4 (omega arith) (λ r. refl)
+
+axles-le : (v : Vehicle) → GoodHauled v → v .axles ≤ 24
+unfolding vehicle
+axles-le = field-le (λ v. v .axles) 5 (omega arith) (λ r. refl)
+
+setting-le : (v : Vehicle) → GoodHauled v → v .setting ≤ 3
+unfolding vehicle
+setting-le = field-le (λ v. v .setting) 7 (omega arith) (λ r. refl)
+
+-- the settings of the first five, and what pads them
+pad-small : (n k : ℕ) → getD (replicate n 4) k 0 ≤ 4
+pad-small zero k = omega arith
+pad-small (suc n) zero = omega arith
+pad-small (suc n) (suc k) = pad-small n k
+
+settings-small : (xs : List Vehicle) → Every GoodHauled xs → (k : ℕ) → getD (map (λ (v : Vehicle). v .setting) xs ++ replicate 5 4) k 0 ≤ 4
+settings-small [] e k = pad-small 5 k
+settings-small (x ∷ xs) e zero = omega (arith, setting-le x (e .0))
+settings-small (x ∷ xs) e (suc k) = settings-small xs (e .1) k
+
+take-small : (n : ℕ) (l : List ℕ) (k : ℕ) → ((j : ℕ) → getD l j 0 ≤ 4) → getD (take n l) k 0 ≤ 4
+take-small zero l k h = omega arith
+take-small (suc n) [] k h = omega arith
+take-small (suc n) (x ∷ l) zero h = h 0
+take-small (suc n) (x ∷ l) (suc k) h = take-small n l k (λ j. h (suc j))
+
+firsts-small : (xs : List Vehicle) → Every GoodHauled xs → (k : ℕ) → getD (firsts 5 4 (λ (v : Vehicle). v .setting) xs) k 0 ≤ 4
+firsts-small xs g k = take-small 5 (map (λ (v : Vehicle). v .setting) xs ++ replicate 5 4) k (settings-small xs g)
+
+infixr 1 _⊗_
+_⊗_ : {A B : Type 0} → A → B → A × B
+a ⊗ b = (a, b)
+
+-- the account of at most 200 good hauled records is within its ceilings
+pub portion-ceilings : (hauled : List Vehicle) → Portion hauled → Within (accountOf hauled)
+unfolding accountOf
+portion-ceilings xs h =
+    let g = h .each in
+    h .few
+    ⊗ omega (arith, sum-le GoodHauled (λ v. v .mass) 2500 mass-le xs g)
+    ⊗ omega (arith, sum-le GoodHauled (λ v. cond (isV v) (v .vmass) 0) 2500 (λ v d. cond-le (isV v) (v .vmass) 2500 (vmass-le v d)) xs g)
+    ⊗ omega (arith, sum-le GoodHauled (λ v. cond (isM v) (v .mmass) 0) 2500 (λ v d. cond-le (isM v) (v .mmass) 2500 (mmass-le v d)) xs g)
+    ⊗ omega (arith, sum-le GoodHauled (λ v. v .length) 1000 length-le xs g)
+    ⊗ omega (arith, sum-le GoodHauled (λ v. v .axles) 24 axles-le xs g)
+    ⊗ omega (arith, sum-le GoodHauled (λ v. cond (isV v) (v .axles) 0) 24 (λ v d. cond-le (isV v) (v .axles) 24 (axles-le v d)) xs g)
+    ⊗ omega (arith, count-le isHauledEngine xs)
+    ⊗ omega (arith, count-le isM xs)
+    ⊗ omega (arith, count-le isIsolated xs)
+    ⊗ omega (arith, count-le hasDLoad xs)
+    ⊗ omega (arith, leading-le isIsolated xs)
+    ⊗ omega (arith, leading-le isIsolated (reverse xs), length-reverse xs)
+    ⊗ omega (arith, longest-le isIsolated xs)
+    ⊗ least-top 200 (λ (v : Vehicle). v .speed) xs
+    ⊗ firsts-small xs g 0
+    ⊗ firsts-small xs g 1
+    ⊗ firsts-small xs g 2
+    ⊗ firsts-small xs g 3
+    ⊗ firsts-small xs g 4
+    ⊗ tt
+
+pub portion-left : (xs ys : List Vehicle) → Portion (xs ++ ys) → Portion xs
+portion-left xs ys h = record { each = every-left GoodHauled xs ys (h .each); few = omega (arith, length-append xs ys) }
+
+pub portion-right : (xs ys : List Vehicle) → Portion (xs ++ ys) → Portion ys
+portion-right xs ys h = record { each = every-right GoodHauled xs ys (h .each); few = omega (arith, length-append xs ys) }

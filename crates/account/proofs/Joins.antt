@@ -1,0 +1,144 @@
+-- The account of a list that is cut is its portions' accounts, joined, in every grouping. Assumes nothing.
+use Prim.Native.Nat.{ℕ, zero, suc, _≤_}
+use native.Mathlib.Omega.{arith}
+use mathlib.Core.Path.{_≡_, refl, sym, ap, ap₂, _∙_}
+use mathlib.Core.Bool.{Bool, true, false, not, _&&_, _||_, cond, or-false, and-false}
+use mathlib.Core.List.{List, [], _∷_, _++_}
+use lib.Dec.{ltb, eqb}
+use lib.ListN.{length, length-append}
+use Rattle.record.specs.Vehicles.{isWagon, isHauledEngine, isIsolated, isM, isV, isR, isJoined, hasMatrossow, hasDLoad}
+use Rattle.record.specs.declared.vehicle.Vehicle.{Vehicle}
+use Rattle.account.specs.Figures.{sum, count, leading, longest, behind}
+use Rattle.account.specs.Accounts.{accountOf, sums}
+use Rattle.account.specs.Ceilings.{within, Every}
+use Rattle.account.specs.Joining.{plus, empty}
+use Rattle.account.specs.Portions.{joinAnswer, joined}
+use Rattle.account.specs.Groupings.{Hauled, GoodHauled, Portion, Grouping, portion, pair, uncut, joinedUp}
+use Rattle.account.specs.declared.Account.{Account}
+use Rattle.account.specs.declared.Accounted.{Accounted}
+use Rattle.account.specs.declared.Answer.{Answer}
+use Rattle.account.specs.declared.Answer.the-variants.{Done, TooMany, AboveCeiling}
+use Rattle.account.proofs.Lists.{sum-append, count-append, some-append, leading-append, trailing-append, longest-append, behind-append, some-count, some-same, lack-count, least-append, firsts-append, every-map}
+use Rattle.account.proofs.Ceils.{within-test, portion-ceilings, portion-left, portion-right}
+
+-- of a hauled vehicle, what is no hauled engine is a wagon
+hauled-wagon : (k : ℕ) → k ≤ 1 → eqb k 0 ≡ not (eqb k 1)
+hauled-wagon zero h = refl
+hauled-wagon (suc zero) h = refl
+hauled-wagon (suc (suc k)) h = absurd (omega arith)
+
+behind-account : (xs ys : List Vehicle) → Every Hauled xs
+    → behind isWagon isHauledEngine (xs ++ ys)
+    ≡ (behind isWagon isHauledEngine xs || behind isWagon isHauledEngine ys || (ltb (count isHauledEngine xs) (length xs) && ltb 0 (count isHauledEngine ys)))
+behind-account xs ys h =
+    behind-append isWagon isHauledEngine xs ys
+    ∙ ap₂ (λ (s t : Bool). behind isWagon isHauledEngine xs || behind isWagon isHauledEngine ys || (s && t))
+    (some-same isWagon (λ v. not (isHauledEngine v)) xs (every-map Hauled (λ v. isWagon v ≡ not (isHauledEngine v)) (λ v k. hauled-wagon (v .kind) k) xs h)
+    ∙ lack-count isHauledEngine xs)
+    (some-count isHauledEngine ys)
+
+pub account-append : (xs ys : List Vehicle) → Every Hauled xs → accountOf (xs ++ ys) ≡ plus (accountOf xs) (accountOf ys)
+unfolding accountOf plus
+account-append xs ys h =
+    λ i.
+    record {
+      count = length-append xs ys i;
+      mass = sum-append (λ v. v .mass) xs ys i;
+      vmass = sum-append (λ v. cond (isV v) (v .vmass) 0) xs ys i;
+      mmass = sum-append (λ v. cond (isM v) (v .mmass) 0) xs ys i;
+      length = sum-append (λ v. v .length) xs ys i;
+      axles = sum-append (λ v. v .axles) xs ys i;
+      vaxles = sum-append (λ v. cond (isV v) (v .axles) 0) xs ys i;
+      engines = count-append isHauledEngine xs ys i;
+      mset = count-append isM xs ys i;
+      isolated = count-append isIsolated xs ys i;
+      dloads = count-append hasDLoad xs ys i;
+      leading = leading-append isIsolated xs ys i;
+      trailing = trailing-append isIsolated xs ys i;
+      longest = longest-append isIsolated xs ys i;
+      behind = behind-account xs ys h i;
+      rule16 = some-append isR xs ys i;
+      rule17 = some-append (λ v. not (isJoined v)) xs ys i;
+      rule18 = some-append (λ v. isWagon v && hasMatrossow v && not (isIsolated v)) xs ys i;
+      slowest = least-append 200 (λ v. v .speed) xs ys i;
+      first = firsts-append (λ v. v .setting) xs ys i;
+    }
+
+pub account-none : accountOf [] ≡ empty
+unfolding accountOf empty
+account-none = refl
+
+pub each-hauled : (xs : List Vehicle) → Every GoodHauled xs → Every Hauled xs
+each-hauled = every-map GoodHauled Hauled (λ v g. g .hauled)
+
+-- ---- what is answered: number 0 with the account, or a refusal with the empty one
+abbrev pub accepted : Account → Accounted
+accepted account = record { answer = Done; account = account }
+
+abbrev pub refusal : Answer → Accounted
+refusal answer = record { answer = answer; account = empty }
+
+module _ (left right : Account) where
+  pub joined-above : (within left && within right) ≡ false → refusal AboveCeiling ≡ joined left right
+  unfolding joinAnswer
+  joined-above e = simp e
+
+  pub joined-many : (within left && within right) ≡ true → within (plus left right) ≡ false → refusal TooMany ≡ joined left right
+  unfolding joinAnswer
+  joined-many d e = simp (d, e)
+
+  pub joined-done : (within left && within right) ≡ true → within (plus left right) ≡ true → accepted (plus left right) ≡ joined left right
+  unfolding joinAnswer
+  joined-done d e = simp (d, e)
+
+-- ---- any grouping of neighbours
+pub portion-within : (xs : List Vehicle) → Portion xs → within (accountOf xs) ≡ true
+portion-within xs h = within-test (accountOf xs) (portion-ceilings xs h)
+
+pub joined-accounts : (xs ys : List Vehicle) → Portion (xs ++ ys)
+    → joined (accountOf xs) (accountOf ys) ≡ accepted (accountOf (xs ++ ys))
+joined-accounts xs ys h =
+    let left = portion-left xs ys h in
+    let same = account-append xs ys (each-hauled xs (left .each)) in
+    sym (joined-done (accountOf xs) (accountOf ys) (ap₂ _&&_ (portion-within xs left) (portion-within ys (portion-right xs ys h))) (ap within (sym same) ∙ portion-within (xs ++ ys) h))
+    ∙ ap accepted (sym same)
+
+-- the accounts of the portions, joined in any grouping of neighbours, are the account of the uncut list
+pub grouped : (g : Grouping Vehicle) → Portion (uncut g) → joinedUp g ≡ accepted (accountOf (uncut g))
+grouped (portion xs) h = refl
+grouped (pair left right) h =
+    ap₂ (λ (a b : Accounted). joined (a .account) (b .account))
+    (grouped left (portion-left (uncut left) (uncut right) h))
+    (grouped right (portion-right (uncut left) (uncut right) h))
+    ∙ joined-accounts (uncut left) (uncut right) h
+
+-- ---- two neighbours exchanged
+module _ {A : Type 0} (xs ys : List A) (a b : A) where
+  sum-exchange : (f : A → ℕ) → sum f (xs ++ (a ∷ b ∷ ys)) ≡ sum f (xs ++ (b ∷ a ∷ ys))
+  sum-exchange f = omega (arith, sum-append f xs (a ∷ b ∷ ys), sum-append f xs (b ∷ a ∷ ys))
+
+  length-exchange : length (xs ++ (a ∷ b ∷ ys)) ≡ length (xs ++ (b ∷ a ∷ ys))
+  length-exchange = length-append xs (a ∷ b ∷ ys) ∙ sym (length-append xs (b ∷ a ∷ ys))
+
+pub exchanged : (xs ys : List Vehicle) (a b : Vehicle)
+    → sums (accountOf (xs ++ (a ∷ b ∷ ys))) ≡ sums (accountOf (xs ++ (b ∷ a ∷ ys)))
+unfolding accountOf
+exchanged xs ys a b =
+    let same : (f : Vehicle → ℕ) → sum f (xs ++ (a ∷ b ∷ ys)) ≡ sum f (xs ++ (b ∷ a ∷ ys)) = sum-exchange xs ys a b in
+    λ i.
+    length-exchange xs ys a b i
+    ∷ same (λ v. v .mass) i
+    ∷ same (λ v. cond (isV v) (v .vmass) 0) i
+    ∷ same (λ v. cond (isM v) (v .mmass) 0) i
+    ∷ same (λ v. v .length) i
+    ∷ same (λ v. v .axles) i
+    ∷ same (λ v. cond (isV v) (v .axles) 0) i
+    ∷ same (λ v. cond (isHauledEngine v) 1 0) i
+    ∷ same (λ v. cond (isM v) 1 0) i
+    ∷ same (λ v. cond (isIsolated v) 1 0) i
+    ∷ same (λ v. cond (hasDLoad v) 1 0) i
+    ∷ []
+
+-- one vehicle stands behind no other
+pub behind-alone : (b : Bool) → ((b && false) || false) ≡ false
+behind-alone b = or-false (b && false) ∙ and-false b

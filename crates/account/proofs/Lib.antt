@@ -1,0 +1,10 @@
+pub mod Lists
+pub mod Ceils
+pub mod Joins
+pub mod Portions
+pub mod Speeds
+pub mod Rules
+pub mod Bytes
+pub mod Unique
+pub mod Runs
+pub mod Demands

@@ -1,0 +1,109 @@
+-- `account::joining::add` meets its contract: figures within their ceilings add without wrapping. Assumes nothing.
+use native.Mathlib.Omega.{arith}
+use Rattle.account.specs.Joining.{plus}
+use Rattle.account.proofs.Ceils.{figure-at}
+use borrow.Author.Needs.{needs}
+use Rattle.account.proofs.joining.add.Statement.{statement}
+use Rattle.account.proofs.joining.add.Tie as tie
+
+fill-first-requires : tie.Need-fill-first-requires
+fill-first-requires c κs = search needs
+
+sum-requires : tie.Need-sum-requires
+sum-requires c κs = search needs
+
+sum-requires-2 : tie.Need-sum-requires-2
+sum-requires-2 c κs = search needs
+
+sum-requires-3 : tie.Need-sum-requires-3
+sum-requires-3 c κs = search needs
+
+sum-requires-4 : tie.Need-sum-requires-4
+sum-requires-4 c κs = search needs
+
+sum-requires-5 : tie.Need-sum-requires-5
+sum-requires-5 c κs = search needs
+
+sum-requires-6 : tie.Need-sum-requires-6
+sum-requires-6 c κs = search needs
+
+sum-requires-7 : tie.Need-sum-requires-7
+sum-requires-7 c κs = search needs
+
+sum-requires-8 : tie.Need-sum-requires-8
+sum-requires-8 c κs = search needs
+
+sum-requires-9 : tie.Need-sum-requires-9
+sum-requires-9 c κs = omega (arith, figure-at (c .before .before .before .before .before .before .before .before .before .before .before .args .left) (c .before .before .before .before .before .before .before .before .before .before .before .pre .0) 8, figure-at (c .before .before .before .before .before .before .before .before .before .before .before .args .right) (c .before .before .before .before .before .before .before .before .before .before .before .pre .1) 8)
+
+sum-requires-10 : tie.Need-sum-requires-10
+sum-requires-10 c κs = omega (arith, figure-at (c .before .before .before .before .before .before .before .before .before .before .before .before .args .left) (c .before .before .before .before .before .before .before .before .before .before .before .before .pre .0) 9, figure-at (c .before .before .before .before .before .before .before .before .before .before .before .before .args .right) (c .before .before .before .before .before .before .before .before .before .before .before .before .pre .1) 9)
+
+sum-requires-11 : tie.Need-sum-requires-11
+sum-requires-11 c κs = omega (arith, figure-at (c .before .before .before .before .before .before .before .before .before .before .before .before .before .args .left) (c .before .before .before .before .before .before .before .before .before .before .before .before .before .pre .0) 10, figure-at (c .before .before .before .before .before .before .before .before .before .before .before .before .before .args .right) (c .before .before .before .before .before .before .before .before .before .before .before .before .before .pre .1) 10)
+
+go-on-requires : tie.Need-go-on-requires
+go-on-requires c κs = omega (arith, figure-at (c .before .before .before .before .before .before .before .before .before .before .before .before .before .before .args .left) (c .before .before .before .before .before .before .before .before .before .before .before .before .before .before .pre .0) 11, figure-at (c .before .before .before .before .before .before .before .before .before .before .before .before .before .before .args .right) (c .before .before .before .before .before .before .before .before .before .before .before .before .before .before .pre .1) 11)
+
+go-on-requires-2 : tie.Need-go-on-requires-2
+go-on-requires-2 c κs = omega (arith, figure-at (c .before .before .before .before .before .before .before .before .before .before .before .before .before .before .before .args .left) (c .before .before .before .before .before .before .before .before .before .before .before .before .before .before .before .pre .0) 12, figure-at (c .before .before .before .before .before .before .before .before .before .before .before .before .before .before .before .args .right) (c .before .before .before .before .before .before .before .before .before .before .before .before .before .before .before .pre .1) 12)
+
+greater-requires : tie.Need-greater-requires
+greater-requires c κs = search needs
+
+sum-requires-12 : tie.Need-sum-requires-12
+sum-requires-12 c κs = omega (arith, figure-at (c .before .before .before .before .before .before .before .before .before .before .before .before .before .before .before .before .before .args .left) (c .before .before .before .before .before .before .before .before .before .before .before .before .before .before .before .before .before .pre .0) 12, figure-at (c .before .before .before .before .before .before .before .before .before .before .before .before .before .before .before .before .before .args .right) (c .before .before .before .before .before .before .before .before .before .before .before .before .before .before .before .before .before .pre .1) 11)
+
+greater-requires-2 : tie.Need-greater-requires-2
+greater-requires-2 c κs = search needs
+
+lesser-requires : tie.Need-lesser-requires
+lesser-requires c κs = search needs
+
+returns : tie.Need-returns
+unfolding plus
+returns c =
+    simp (
+      c .before .before .before .before .before .before .before .before .before .before .before .before .before .before .before .before .before .before .before .before .before .before .before .before .before .before .before .fill-first .ensures,
+      c .before .before .before .before .before .before .before .before .before .before .before .before .before .before .before .before .before .before .before .before .before .before .before .before .before .before .sum .ensures,
+      c .before .before .before .before .before .before .before .before .before .before .before .before .before .before .before .before .before .before .before .before .before .before .before .before .before .sum2 .ensures,
+      c .before .before .before .before .before .before .before .before .before .before .before .before .before .before .before .before .before .before .before .before .before .before .before .before .sum3 .ensures,
+      c .before .before .before .before .before .before .before .before .before .before .before .before .before .before .before .before .before .before .before .before .before .before .before .sum4 .ensures,
+      c .before .before .before .before .before .before .before .before .before .before .before .before .before .before .before .before .before .before .before .before .before .before .sum5 .ensures,
+      c .before .before .before .before .before .before .before .before .before .before .before .before .before .before .before .before .before .before .before .before .before .sum6 .ensures,
+      c .before .before .before .before .before .before .before .before .before .before .before .before .before .before .before .before .before .before .before .before .sum7 .ensures,
+      c .before .before .before .before .before .before .before .before .before .before .before .before .before .before .before .before .before .before .before .sum8 .ensures,
+      c .before .before .before .before .before .before .before .before .before .before .before .before .before .before .before .before .before .before .sum9 .ensures,
+      c .before .before .before .before .before .before .before .before .before .before .before .before .before .before .before .before .before .sum10 .ensures,
+      c .before .before .before .before .before .before .before .before .before .before .before .before .before .before .before .before .sum11 .ensures,
+      c .before .before .before .before .before .before .before .before .before .before .before .before .before .before .before .go-on .ensures,
+      c .before .before .before .before .before .before .before .before .before .before .before .before .before .before .go-on2 .ensures,
+      c .before .before .before .before .before .before .before .before .before .before .before .before .before .greater .ensures,
+      c .before .before .before .before .before .before .before .before .before .before .before .before .sum12 .ensures,
+      c .before .before .before .before .before .before .before .before .before .before .before .greater2 .ensures,
+      c .lesser .ensures,
+    )
+
+pub add-spec : {M : Type 1} → statement M
+add-spec =
+    tie.close
+    (tie.spec
+    fill-first-requires
+    sum-requires
+    sum-requires-2
+    sum-requires-3
+    sum-requires-4
+    sum-requires-5
+    sum-requires-6
+    sum-requires-7
+    sum-requires-8
+    sum-requires-9
+    sum-requires-10
+    sum-requires-11
+    go-on-requires
+    go-on-requires-2
+    greater-requires
+    sum-requires-12
+    greater-requires-2
+    lesser-requires
+    returns)

@@ -1,0 +1,54 @@
+-- Demand 3: hauled vehicles cut into portions anywhere, in order, and the portions joined in any grouping of neighbours.
+use Prim.Native.Nat.{ℕ, _%_, _≤_}
+use mathlib.Core.Path.{_≡_}
+use mathlib.Core.Bool.{true}
+use mathlib.Core.List.{List, _++_}
+use lib.ListN.{length}
+use Rattle.record.specs.Vehicles.{good, vehicle}
+use Rattle.record.specs.declared.vehicle.Vehicle.{Vehicle}
+use Rattle.account.specs.Accounts.{accountOf}
+use Rattle.account.specs.Ceilings.{Every}
+use Rattle.account.specs.Portions.{accounted, joined}
+use Rattle.account.specs.declared.Accounted.{Accounted}
+use Rattle.account.specs.declared.Answer.the-variants.{Done}
+
+-- a wagon or a hauled engine
+abbrev pub Hauled : Vehicle → Type 0
+Hauled v = v .kind ≤ 1
+
+-- what a good record says, of a hauled vehicle
+pub record GoodHauled (v : Vehicle) : Type 0 where
+  pub bytes : List ℕ
+  pub isGood : good bytes ≡ true
+  pub says : v ≡ vehicle bytes
+  pub hauled : Hauled v
+
+-- at most 200 good hauled records
+pub record Portion (hauled : List Vehicle) : Type 0 where
+  pub each : Every GoodHauled hauled
+  pub few : length hauled ≤ 200
+
+-- a list cut into portions, and the portions grouped: each pair is of neighbours
+pub data Grouping (A : Type 0) : Type 0 where
+  portion : List A → Grouping A
+  pair : Grouping A → Grouping A → Grouping A
+
+-- the uncut list
+abbrev pub uncut : {A : Type 0} → Grouping A → List A
+uncut (portion xs) = xs
+uncut (pair left right) = uncut left ++ uncut right
+
+-- the portions' accounts, joined as they are grouped
+abbrev pub joinedUp : Grouping Vehicle → Accounted
+joinedUp (portion hauled) = record { answer = Done; account = accountOf hauled }
+joinedUp (pair left right) = joined (joinedUp left .account) (joinedUp right .account)
+
+-- the same of portions lent as bytes
+abbrev pub joinedBytes : Grouping ℕ → Accounted
+joinedBytes (portion bs) = accounted bs
+joinedBytes (pair left right) = joined (joinedBytes left .account) (joinedBytes right .account)
+
+-- bytes cut between records
+abbrev pub BetweenRecords : Grouping ℕ → Type 0
+BetweenRecords (portion bs) = length bs % 24 ≡ 0
+BetweenRecords (pair left right) = BetweenRecords left × BetweenRecords right

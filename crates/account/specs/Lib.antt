@@ -1,0 +1,9 @@
+pub mod Figures
+pub mod Accounts
+pub mod Ceilings
+pub mod Joining
+pub mod Answers
+pub mod Portions
+pub mod Groupings
+pub mod Readings
+pub mod Speed

@@ -1,0 +1,105 @@
+// The figures of one account: the empty one, that of one vehicle, the ceilings.
+ghost use mathlib.Core.Path.{_≡_};
+ghost use mathlib.Core.Bool.{cond};
+ghost use mathlib.Core.List.{[], _∷_};
+ghost use Prim.Native.Nat.{min};
+ghost use Rattle.account.specs.Accounts.{accountOf};
+ghost use Rattle.account.specs.Ceilings.{within};
+ghost use Rattle.account.specs.Joining.{empty};
+use crate::Account;
+use record::vehicle::Vehicle;
+
+pub fn empty_account() -> Account
+    ensures { λ r. ⌜ r ≡ empty ⌝ }
+{
+    Account {
+        count: 0,
+        mass: 0,
+        vmass: 0,
+        mmass: 0,
+        length: 0,
+        axles: 0,
+        vaxles: 0,
+        engines: 0,
+        mset: 0,
+        isolated: 0,
+        dloads: 0,
+        leading: 0,
+        trailing: 0,
+        longest: 0,
+        behind: false,
+        rule16: false,
+        rule17: false,
+        rule18: false,
+        slowest: 200,
+        first: [4; 5],
+    }
+}
+
+// Whether no figure is above its ceiling.
+pub fn is_within(a: Account) -> bool
+    ensures { λ r. ⌜ r ≡ within a ⌝ }
+{
+    let first = a.first;
+    (a.count <= 200)
+        & (a.mass <= 500_000)
+        & (a.vmass <= 500_000)
+        & (a.mmass <= 500_000)
+        & (a.length <= 200_000)
+        & (a.axles <= 4_800)
+        & (a.vaxles <= 4_800)
+        & (a.engines <= 200)
+        & (a.mset <= 200)
+        & (a.isolated <= 200)
+        & (a.dloads <= 200)
+        & (a.leading <= 200)
+        & (a.trailing <= 200)
+        & (a.longest <= 200)
+        & (a.slowest <= 200)
+        & (first[0] <= 4)
+        & (first[1] <= 4)
+        & (first[2] <= 4)
+        & (first[3] <= 4)
+        & (first[4] <= 4)
+}
+
+pub fn lesser(x: u32, y: u32) -> u32
+    ensures { λ r. ⌜ r ≡ min x y ⌝ }
+{
+    if x < y { x } else { y }
+}
+
+// `x` where the mark holds, and else 0.
+fn only(mark: bool, x: u32) -> u32
+    ensures { λ r. ⌜ r ≡ cond mark x 0 ⌝ }
+{
+    if mark { x } else { 0 }
+}
+
+pub fn account_of_one(v: Vehicle) -> Account
+    ensures { λ r. ⌜ r ≡ accountOf (v ∷ []) ⌝ }
+{
+    let isolated = only(v.setting == 0, 1);
+    Account {
+        count: 1,
+        mass: v.mass,
+        vmass: only(v.setting == 2, v.vmass),
+        mmass: only(v.setting == 1, v.mmass),
+        length: v.length,
+        axles: v.axles,
+        vaxles: only(v.setting == 2, v.axles),
+        engines: only(v.kind == 1, 1),
+        mset: only(v.setting == 1, 1),
+        isolated: isolated,
+        dloads: only(v.dload == 1, 1),
+        leading: isolated,
+        trailing: isolated,
+        longest: isolated,
+        behind: false,
+        rule16: v.setting == 3,
+        rule17: !(v.joined == 1),
+        rule18: (v.kind == 0) & (v.matrossow == 1) & !(v.setting == 0),
+        slowest: lesser(v.speed, 200),
+        first: [v.setting, 4, 4, 4, 4],
+    }
+}

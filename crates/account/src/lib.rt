@@ -1,0 +1,148 @@
+// The account of a portion of hauled vehicles, joining, and the vehicle that holds the speed. Knows no category.
+ghost use mathlib.Core.Path.{_≡_};
+ghost use Rattle.record.specs.Records.{recordsOf};
+ghost use Rattle.record.specs.Vehicles.{firstBad};
+ghost use Rattle.account.specs.Answers.{badFieldOr};
+ghost use Rattle.account.specs.Joining.{empty};
+ghost use Rattle.account.specs.Portions.{accounted, joined};
+ghost use Rattle.account.specs.Speed.{holdsTheSpeed};
+use record::vehicle::Found;
+use record::vehicle::Reading;
+use record::vehicle::SIZE;
+use record::vehicle::first_bad;
+use record::vehicle::read;
+
+mod figure;
+mod joining;
+mod speed;
+
+// The figures of hauled records in order; marks are bools.
+pub struct Account {
+    pub count: u32,
+    pub mass: u32,
+    pub vmass: u32,
+    pub mmass: u32,
+    pub length: u32,
+    pub axles: u32,
+    pub vaxles: u32,
+    pub engines: u32,
+    pub mset: u32,
+    pub isolated: u32,
+    pub dloads: u32,
+    pub leading: u32,
+    pub trailing: u32,
+    pub longest: u32,
+    pub behind: bool,
+    pub rule16: bool,
+    pub rule17: bool,
+    pub rule18: bool,
+    pub slowest: u32,
+    pub first: [u32; 5],
+}
+
+// Done, or the refusals 1, 2, 3 with its place, 6, 7.
+pub enum Answer {
+    Done,
+    NotWhole,
+    TooMany,
+    BadField(usize),
+    WorkingEngine,
+    AboveCeiling,
+}
+
+// The answer beside the account: an enum can't hold the array of five.
+pub struct Accounted {
+    pub answer: Answer,
+    pub account: Account,
+}
+
+// The most records of a train.
+const MOST: usize = 200;
+
+// Number 0.
+fn done(account: Account) -> Accounted
+    ensures { λ r. ⌜ r ≡ record { answer = Answer.Done; account = account } ⌝ }
+{
+    Accounted {
+        answer: Answer::Done,
+        account: account,
+    }
+}
+
+// A refusal returns the empty account.
+fn refused(answer: Answer) -> Accounted
+    ensures { λ r. ⌜ r ≡ record { answer = answer; account = empty } ⌝ }
+{
+    Accounted {
+        answer: answer,
+        account: figure::empty_account(),
+    }
+}
+
+// Refusal 6 of a portion that has a working engine, unless 3 applies.
+fn engine_or_bad(portion: &[u8]) -> Answer
+    ensures { λ r. ⌜ r ≡ badFieldOr (firstBad (recordsOf (now (portion .entry)))) Answer.WorkingEngine ⌝ }
+{
+    match first_bad(portion) {
+        Found::At(place) => Answer::BadField(place),
+        Found::Nothing => Answer::WorkingEngine,
+    }
+}
+
+// The account of a portion of hauled vehicles.
+pub fn account_of(portion: &[u8]) -> Accounted
+    ensures { λ r. ⌜ r ≡ accounted (now (portion .entry)) ⌝ }
+{
+    if portion.len() % SIZE != 0 {
+        return refused(Answer::NotWhole);
+    }
+    let n = portion.len() / SIZE;
+    if MOST < n {
+        return refused(Answer::TooMany);
+    }
+    let mut account = figure::empty_account();
+    let mut i = 0;
+    while i < n {
+        let at = SIZE * i;
+        let Reading::Good(vehicle) = read(&portion[at..at + SIZE]) else {
+            return refused(Answer::BadField(i));
+        };
+        if vehicle.kind == 2 {
+            return refused(engine_or_bad(portion));
+        }
+        account = joining::add(account, figure::account_of_one(vehicle));
+        i += 1;
+    }
+    done(account)
+}
+
+// The account of two portions, from their accounts.
+pub fn join(left: Account, right: Account) -> Accounted
+    ensures { λ r. ⌜ r ≡ joined left right ⌝ }
+{
+    if !(figure::is_within(left) & figure::is_within(right)) {
+        return refused(Answer::AboveCeiling);
+    }
+    let account = joining::add(left, right);
+    if !figure::is_within(account) {
+        return refused(Answer::TooMany);
+    }
+    done(account)
+}
+
+// The bytes of the vehicle that holds the speed, out of whichever portion has it.
+pub fn holds_the_speed<'a>(front: &'a [u8], back: &'a [u8]) -> &'a [u8]
+    ensures { λ r. ⌜ now r ≡ holdsTheSpeed (now (front .entry)) (now (back .entry)) ⌝ }
+{
+    if !(speed::is_whole_good(front) & speed::is_whole_good(back)) {
+        return &front[..0];
+    }
+    let n = front.len() / SIZE + back.len() / SIZE;
+    if MOST < n {
+        return &front[..0];
+    }
+    if n == 0 {
+        return &front[..0];
+    }
+    speed::slowest(front, back, n)
+}
