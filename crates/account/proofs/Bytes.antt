@@ -2,30 +2,30 @@
 use Prim.Native.Nat.{ℕ, _%_, _≤_}
 use native.Mathlib.Omega.{arith}
 use mathlib.Core.Path.{_≡_, refl, sym, ap, ap₂, _∙_, subst}
-use mathlib.Core.Bool.{Bool, true, false, not, _||_, cond, false≢true}
+use mathlib.Core.Bool.{Bool, true, false, not, _&&_, _||_, cond, false≢true}
 use mathlib.Core.List.{List, [], _∷_, _++_, map}
 use borrow.Author.Tests.{eqb-true, eqb-false, ltb-false, not-false}
-use lib.Dec.{ltb, eqb}
+use lib.Dec.{ltb}
 use lib.ListN.{length, length-append, length-map}
-use Rattle.record.specs.Words.{all}
-use Rattle.record.specs.Records.{count, recordsOf}
-use Rattle.record.specs.Vehicles.{good, vehicle, vehicles, firstBad, isWorking}
+use Rattle.record.specs.Words.{all, Every}
+use Rattle.record.specs.Records.{recordCount, recordsOf, isWhole}
+use Rattle.record.specs.Vehicles.{good, vehicle, vehicles, isWorking}
 use Rattle.record.specs.declared.vehicle.Vehicle.{Vehicle}
-use Rattle.record.specs.declared.vehicle.Found.{Found}
-use Rattle.record.specs.declared.vehicle.Found.the-variants.{At, Nothing}
 use Rattle.record.proofs.Records.{length-records, records-append}
-use Rattle.record.proofs.Vehicles.{both, all-append, bad-is, bad-none, isNothing, vehicles-append}
+use Rattle.record.proofs.Vehicles.{both, all-append, vehicles-append}
 use Rattle.account.specs.Figures.{some}
 use Rattle.account.specs.Accounts.{accountOf}
-use Rattle.account.specs.Ceilings.{Every}
-use Rattle.account.specs.Answers.{badFieldOr}
-use Rattle.account.specs.Portions.{portionAnswer, accounted, joined}
-use Rattle.account.specs.Groupings.{GoodHauled, Portion, Grouping, portion, pair, uncut, joinedBytes, BetweenRecords}
+use Rattle.account.specs.Ceilings.{within}
+use Rattle.account.specs.Joining.{joining}
+use Rattle.account.specs.Answers.{firstThatApplies, doneWith}
+use Rattle.account.specs.Portions.{portionRefusals, accounted, joinRefusals, joined}
+use Rattle.account.specs.Groupings.{GoodHauled, Portion, Grouping, portion, pair, uncut, joinedBytes, BetweenRecords, NoneRefused}
 use Rattle.account.specs.declared.Accounted.{Accounted}
 use Rattle.account.specs.declared.Answer.{Answer}
-use Rattle.account.specs.declared.Answer.the-variants.{Done, NotWhole, TooMany, WorkingEngine}
-use Rattle.account.proofs.Ceils.{portion-left, portion-right}
-use Rattle.account.proofs.Joins.{joined-accounts, accepted}
+use Rattle.account.specs.declared.Answer.the-variants.{Done, NotWhole, TooMany, BadField, WorkingEngine, AboveCeiling}
+use Rattle.account.proofs.Lists.{every-append}
+use Rattle.account.proofs.Ceils.{test-within, figure-at, portion-left, portion-right}
+use Rattle.account.proofs.Joins.{joined-accounts}
 use Rattle.account.proofs.Portions.{good-hauled, answer-0, none-working}
 
 -- ---- a portion that is done is whole, few, good and hauled
@@ -39,10 +39,6 @@ not-refused : (t : Bool) (refusal next : Answer) → (refusal ≡ Done → ⊥) 
 not-refused true refusal next h e = absurd (h e)
 not-refused false refusal next h e = (refl, e)
 
-not-bad : (f : Found) (next : Answer) → badFieldOr f next ≡ Done → (f ≡ Nothing) × (next ≡ Done)
-not-bad (At place) next e = absurd (let z : _≡_ {A = ℕ} 0 1 = cc in omega arith)
-not-bad Nothing next e = (refl, e)
-
 hauled-each : (rs : List (List ℕ)) → all good rs ≡ true → some isWorking (map vehicle rs) ≡ false → Every GoodHauled (map vehicle rs)
 unfolding all
 hauled-each [] g w = tt
@@ -55,33 +51,41 @@ hauled-each (r ∷ rs) g w =
     neither true q e = absurd (false≢true (sym e))
     neither false q e = (refl, e)
 
-done-sound : (bs : List ℕ) → portionAnswer bs ≡ Done → Sound bs
-unfolding portionAnswer
+done-sound : (bs : List ℕ) → firstThatApplies (portionRefusals bs) ≡ Done → Sound bs
+unfolding portionRefusals
 done-sound bs e =
-    let n1 = not-refused (not (eqb (length bs % 24) 0)) NotWhole _ (λ q. let z : _≡_ {A = ℕ} 0 1 = cc in omega arith) e in
-    let n2 = not-refused (ltb 200 (count bs)) TooMany _ (λ q. let z : _≡_ {A = ℕ} 0 1 = cc in omega arith) (n1 .1) in
-    let n3 = not-bad (firstBad (recordsOf bs)) _ (n2 .1) in
+    let n1 = not-refused (not (isWhole bs)) NotWhole _ (λ q. let z : _≡_ {A = ℕ} 0 1 = cc in omega arith) e in
+    let n2 = not-refused (ltb 200 (recordCount bs)) TooMany _ (λ q. let z : _≡_ {A = ℕ} 0 1 = cc in omega arith) (n1 .1) in
+    let n3 = not-refused (not (all good (recordsOf bs))) (BadField _) _ (λ q. let z : _≡_ {A = ℕ} 0 1 = cc in omega arith) (n2 .1) in
     let n6 = not-refused (some isWorking (vehicles bs)) WorkingEngine Done (λ q. let z : _≡_ {A = ℕ} 0 1 = cc in omega arith) (n3 .1) in
-    let good = sym (bad-is (recordsOf bs)) ∙ ap isNothing (n3 .0) in
+    let good = not-false (all good (recordsOf bs)) (n3 .0) in
     record {
-      whole = eqb-true (length bs % 24) 0 (not-false (eqb (length bs % 24) 0) (n1 .0));
+      whole = eqb-true (length bs % 24) 0 (not-false (isWhole bs) (n1 .0));
       fine = good;
       hauled =
           record {
             each = hauled-each (recordsOf bs) good (n6 .0);
-            few = omega (arith, length-map (recordsOf bs) vehicle, length-records (count bs) bs, ltb-false 200 (count bs) (n2 .0));
+            few = omega (arith, length-map (recordsOf bs) vehicle, length-records (recordCount bs) bs, ltb-false 200 (recordCount bs) (n2 .0));
           };
     }
 
-sound-done : (bs : List ℕ) → Sound bs → accounted bs ≡ accepted (accountOf (vehicles bs))
+sound-done : (bs : List ℕ) → Sound bs → accounted bs ≡ doneWith (accountOf (vehicles bs))
 sound-done bs s =
-    let few : count bs ≤ 200 = omega (arith, s .hauled .few, length-map (recordsOf bs) vehicle, length-records (count bs) bs) in
-    sym (answer-0 bs (s .whole) few (bad-none (recordsOf bs) (s .fine)) (none-working (vehicles bs) (s .hauled .each)))
+    let few : recordCount bs ≤ 200 = omega (arith, s .hauled .few, length-map (recordsOf bs) vehicle, length-records (recordCount bs) bs) in
+    sym (answer-0 bs (s .whole) few (s .fine) (none-working (vehicles bs) (s .hauled .each)))
 
 -- what is cut between records is whole
 between : (g : Grouping ℕ) → BetweenRecords g → length (uncut g) % 24 ≡ 0
-between (portion bs) c = c
+between (portion bs) c = eqb-true (length bs % 24) 0 c
 between (pair left right) c = omega (arith, length-append (uncut left) (uncut right), between left (c .0), between right (c .1))
+
+-- two accounts of lists that join are of at most 200 records
+joined-few : (xs ys : List Vehicle) → joined (accountOf xs) (accountOf ys) .answer ≡ Done → length (xs ++ ys) ≤ 200
+unfolding joinRefusals accountOf joining
+joined-few xs ys e =
+    let n7 = not-refused (not (within (accountOf xs) && within (accountOf ys))) AboveCeiling _ (λ q. let z : _≡_ {A = ℕ} 0 1 = cc in omega arith) e in
+    let n2 = not-refused (not (within (joining (accountOf xs) (accountOf ys)))) TooMany Done (λ q. let z : _≡_ {A = ℕ} 0 1 = cc in omega arith) (n7 .1) in
+    omega (arith, length-append xs ys, figure-at (joining (accountOf xs) (accountOf ys)) (test-within (joining (accountOf xs) (accountOf ys)) (not-false (within (joining (accountOf xs) (accountOf ys))) (n2 .0))) 0)
 
 -- ---- two portions of a sound one
 module _ (a b : List ℕ) (cut : length a % 24 ≡ 0) (s : Sound (a ++ b)) where
@@ -115,8 +119,31 @@ sound-grouped (pair left right) c s =
     let r = sound-right a b cut s in
     ap₂ (λ (x y : Accounted). joined (x .account) (y .account)) (sound-grouped left (c .0) l ∙ sound-done a l) (sound-grouped right (c .1) r ∙ sound-done b r)
     ∙ joined-accounts (vehicles a) (vehicles b) (both-portions a b cut s)
-    ∙ ap (λ (xs : List Vehicle). accepted (accountOf xs)) (sym (vehicles-append a b cut))
+    ∙ ap (λ (xs : List Vehicle). doneWith (accountOf xs)) (sym (vehicles-append a b cut))
     ∙ sym (sound-done (a ++ b) s)
 
-pub bytes-grouped : (g : Grouping ℕ) → BetweenRecords g → portionAnswer (uncut g) ≡ Done → joinedBytes g ≡ accounted (uncut g)
+pub bytes-grouped : (g : Grouping ℕ) → BetweenRecords g → firstThatApplies (portionRefusals (uncut g)) ≡ Done → joinedBytes g ≡ accounted (uncut g)
 bytes-grouped g c e = sound-grouped g c (done-sound (uncut g) e)
+
+-- ---- the same where no call was refused, whatever the cut
+done-grouped : (g : Grouping ℕ) → NoneRefused g → Sound (uncut g) × (joinedBytes g ≡ doneWith (accountOf (vehicles (uncut g))))
+done-grouped (portion bs) d = let s = done-sound bs d in (s, sound-done bs s)
+done-grouped (pair left right) d =
+    let a = uncut left in
+    let b = uncut right in
+    let l = done-grouped left (d .0) in
+    let r = done-grouped right (d .1) in
+    let accounts = ap₂ (λ (x y : Accounted). joined (x .account) (y .account)) (l .1) (r .1) in
+    let few = joined-few (vehicles a) (vehicles b) (sym (ap (λ (x : Accounted). x .answer) accounts) ∙ d .2) in
+    let together : Portion (vehicles a ++ vehicles b) = record { each = every-append GoodHauled (vehicles a) (vehicles b) (l .0 .hauled .each) (r .0 .hauled .each); few = few } in
+    let same = vehicles-append a b (l .0 .whole) in (
+      record {
+        whole = omega (arith, l .0 .whole, r .0 .whole, length-append a b);
+        fine = ap (all good) (records-append a b (l .0 .whole)) ∙ all-append good (recordsOf a) (recordsOf b) ∙ ap₂ _&&_ (l .0 .fine) (r .0 .fine);
+        hauled = subst Portion (sym same) together;
+      },
+      accounts ∙ joined-accounts (vehicles a) (vehicles b) together ∙ ap (λ (xs : List Vehicle). doneWith (accountOf xs)) (sym same),
+    )
+
+pub bytes-done : (g : Grouping ℕ) → NoneRefused g → joinedBytes g ≡ accounted (uncut g)
+bytes-done g d = done-grouped g d .1 ∙ sym (sound-done (uncut g) (done-grouped g d .0))

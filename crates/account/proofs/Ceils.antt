@@ -7,13 +7,13 @@ use mathlib.Core.List.{List, [], _∷_, _++_, map, reverse}
 use borrow.Author.Tests.{le-leb, leb-true}
 use lib.Dec.{leb}
 use lib.ListN.{take, replicate, getD, length-append, length-reverse}
-use Rattle.record.specs.Words.{all}
+use Rattle.record.specs.Words.{all, Every}
 use Rattle.record.specs.Vehicles.{value, nth, vehicle, isHauledEngine, isIsolated, isM, isV, hasDLoad}
 use Rattle.record.specs.declared.vehicle.Vehicle.{Vehicle}
 use Rattle.record.proofs.Vehicles.{both, at-most}
 use Rattle.account.specs.Figures.{firsts}
 use Rattle.account.specs.Accounts.{accountOf}
-use Rattle.account.specs.Ceilings.{Figure, _upTo_, figures, within, Every, Within}
+use Rattle.account.specs.Ceilings.{Figure, _upTo_, figures, within, Within}
 use Rattle.account.specs.Groupings.{GoodHauled, Portion}
 use Rattle.account.specs.declared.Account.{Account}
 use Rattle.account.proofs.Lists.{sum-le, count-le, cond-le, leading-le, longest-le, least-top, every-left, every-right}

@@ -6,18 +6,19 @@ use mathlib.Core.Bool.{Bool, true, false, not, _&&_, _||_, cond, or-false, and-f
 use mathlib.Core.List.{List, [], _∷_, _++_}
 use lib.Dec.{ltb, eqb}
 use lib.ListN.{length, length-append}
+use Rattle.record.specs.Words.{Every, leading}
 use Rattle.record.specs.Vehicles.{isWagon, isHauledEngine, isIsolated, isM, isV, isR, isJoined, hasMatrossow, hasDLoad}
 use Rattle.record.specs.declared.vehicle.Vehicle.{Vehicle}
-use Rattle.account.specs.Figures.{sum, count, leading, longest, behind}
+use Rattle.account.specs.Figures.{sum, count, longest, behind}
 use Rattle.account.specs.Accounts.{accountOf, sums}
-use Rattle.account.specs.Ceilings.{within, Every}
-use Rattle.account.specs.Joining.{plus, empty}
-use Rattle.account.specs.Portions.{joinAnswer, joined}
-use Rattle.account.specs.Groupings.{Hauled, GoodHauled, Portion, Grouping, portion, pair, uncut, joinedUp}
+use Rattle.account.specs.Ceilings.{within}
+use Rattle.account.specs.Joining.{joining}
+use Rattle.account.specs.Answers.{doneWith, refusedBy}
+use Rattle.account.specs.Portions.{joinRefusals, joined}
+use Rattle.account.specs.Groupings.{Hauled, GoodHauled, Portion, Grouping, portion, pair, uncut, joinedVehicles}
 use Rattle.account.specs.declared.Account.{Account}
 use Rattle.account.specs.declared.Accounted.{Accounted}
-use Rattle.account.specs.declared.Answer.{Answer}
-use Rattle.account.specs.declared.Answer.the-variants.{Done, TooMany, AboveCeiling}
+use Rattle.account.specs.declared.Answer.the-variants.{TooMany, AboveCeiling}
 use Rattle.account.proofs.Lists.{sum-append, count-append, some-append, leading-append, trailing-append, longest-append, behind-append, some-count, some-same, lack-count, least-append, firsts-append, every-map}
 use Rattle.account.proofs.Ceils.{within-test, portion-ceilings, portion-left, portion-right}
 
@@ -37,8 +38,8 @@ behind-account xs ys h =
     ∙ lack-count isHauledEngine xs)
     (some-count isHauledEngine ys)
 
-pub account-append : (xs ys : List Vehicle) → Every Hauled xs → accountOf (xs ++ ys) ≡ plus (accountOf xs) (accountOf ys)
-unfolding accountOf plus
+pub account-append : (xs ys : List Vehicle) → Every Hauled xs → accountOf (xs ++ ys) ≡ joining (accountOf xs) (accountOf ys)
+unfolding accountOf joining
 account-append xs ys h =
     λ i.
     record {
@@ -64,31 +65,21 @@ account-append xs ys h =
       first = firsts-append (λ v. v .setting) xs ys i;
     }
 
-pub account-none : accountOf [] ≡ empty
-unfolding accountOf empty
-account-none = refl
-
 pub each-hauled : (xs : List Vehicle) → Every GoodHauled xs → Every Hauled xs
 each-hauled = every-map GoodHauled Hauled (λ v g. g .hauled)
 
--- ---- what is answered: number 0 with the account, or a refusal with the empty one
-abbrev pub accepted : Account → Accounted
-accepted account = record { answer = Done; account = account }
-
-abbrev pub refusal : Answer → Accounted
-refusal answer = record { answer = answer; account = empty }
-
+-- ---- what joining answers, case by case
 module _ (left right : Account) where
-  pub joined-above : (within left && within right) ≡ false → refusal AboveCeiling ≡ joined left right
-  unfolding joinAnswer
+  pub joined-above : (within left && within right) ≡ false → refusedBy AboveCeiling ≡ joined left right
+  unfolding joinRefusals
   joined-above e = simp e
 
-  pub joined-many : (within left && within right) ≡ true → within (plus left right) ≡ false → refusal TooMany ≡ joined left right
-  unfolding joinAnswer
+  pub joined-many : (within left && within right) ≡ true → within (joining left right) ≡ false → refusedBy TooMany ≡ joined left right
+  unfolding joinRefusals
   joined-many d e = simp (d, e)
 
-  pub joined-done : (within left && within right) ≡ true → within (plus left right) ≡ true → accepted (plus left right) ≡ joined left right
-  unfolding joinAnswer
+  pub joined-done : (within left && within right) ≡ true → within (joining left right) ≡ true → doneWith (joining left right) ≡ joined left right
+  unfolding joinRefusals
   joined-done d e = simp (d, e)
 
 -- ---- any grouping of neighbours
@@ -96,15 +87,15 @@ pub portion-within : (xs : List Vehicle) → Portion xs → within (accountOf xs
 portion-within xs h = within-test (accountOf xs) (portion-ceilings xs h)
 
 pub joined-accounts : (xs ys : List Vehicle) → Portion (xs ++ ys)
-    → joined (accountOf xs) (accountOf ys) ≡ accepted (accountOf (xs ++ ys))
+    → joined (accountOf xs) (accountOf ys) ≡ doneWith (accountOf (xs ++ ys))
 joined-accounts xs ys h =
     let left = portion-left xs ys h in
     let same = account-append xs ys (each-hauled xs (left .each)) in
     sym (joined-done (accountOf xs) (accountOf ys) (ap₂ _&&_ (portion-within xs left) (portion-within ys (portion-right xs ys h))) (ap within (sym same) ∙ portion-within (xs ++ ys) h))
-    ∙ ap accepted (sym same)
+    ∙ ap doneWith (sym same)
 
 -- the accounts of the portions, joined in any grouping of neighbours, are the account of the uncut list
-pub grouped : (g : Grouping Vehicle) → Portion (uncut g) → joinedUp g ≡ accepted (accountOf (uncut g))
+pub grouped : (g : Grouping Vehicle) → Portion (uncut g) → joinedVehicles g ≡ doneWith (accountOf (uncut g))
 grouped (portion xs) h = refl
 grouped (pair left right) h =
     ap₂ (λ (a b : Accounted). joined (a .account) (b .account))

@@ -1,10 +1,11 @@
+pub mod Answered
 pub mod Lists
 pub mod Ceils
 pub mod Joins
 pub mod Portions
+pub mod Bytes
 pub mod Speeds
 pub mod Rules
-pub mod Bytes
 pub mod Unique
 pub mod Runs
 pub mod Demands

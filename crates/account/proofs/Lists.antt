@@ -11,8 +11,8 @@ use borrow.Author.Tests.{eq-eqb, ne-eqb, lt-ltb}
 use lib.Dec.{eqb, ltb, eqb·zero-suc, eqb·suc-suc, leb·suc-suc}
 use lib.ListN.{length, take, replicate, length-reverse, length-map}
 use lib.Seq.{take-take}
-use Rattle.account.specs.Figures.{sum, count, some, leading, trailing, longest, behind, least, firsts}
-use Rattle.account.specs.Ceilings.{Every}
+use Rattle.record.specs.Words.{Every, leading}
+use Rattle.account.specs.Figures.{sum, count, some, trailing, longest, behind, least, firsts}
 use Rattle.account.specs.Joining.{onward, fill}
 
 -- ---- Booleans and numbers alone

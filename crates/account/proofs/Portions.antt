@@ -3,30 +3,29 @@ use Prim.Native.Nat.{ℕ, _+_, _*_, _-_, _%_, _≤_, _<_}
 use native.Mathlib.Omega.{arith}
 use native.Mathlib.Numerals.{add-one}
 use mathlib.Core.Path.{_≡_, refl, sym, ap, ap₂, _∙_}
-use mathlib.Core.Bool.{Bool, true, false, _||_, or-true}
+use mathlib.Core.Bool.{Bool, true, false, not, _||_, cond, or-true}
 use mathlib.Core.List.{List, [], _∷_, _++_, map, map-append}
 use borrow.Author.Tests.{eq-eqb, ne-eqb, lt-ltb, le-ltb}
 use lib.ListN.{length, take, drop, length-map}
-use Rattle.record.specs.Records.{count, records, recordAt, recordsOf}
-use Rattle.record.specs.Vehicles.{good, vehicle, reading, vehicles, firstBad, isWorking}
+use Rattle.record.specs.Words.{all, leading, Every}
+use Rattle.record.specs.Records.{recordCount, records, recordsOf}
+use Rattle.record.specs.Vehicles.{good, vehicle, reading, vehicles, isWorking}
 use Rattle.record.specs.declared.vehicle.Vehicle.{Vehicle}
 use Rattle.record.specs.declared.vehicle.Reading.the-variants.{Good}
-use Rattle.record.specs.declared.vehicle.Found.{Found}
-use Rattle.record.specs.declared.vehicle.Found.the-variants.{At, Nothing}
-use Rattle.record.proofs.Records.{records-split, length-records}
+use Rattle.record.proofs.Records.{recordAt, records-split, length-records}
 use Rattle.record.proofs.Vehicles.{at-most, part-good, vehicles-snoc}
 use Rattle.account.specs.Figures.{some}
 use Rattle.account.specs.Accounts.{accountOf}
-use Rattle.account.specs.Ceilings.{Every, Within}
-use Rattle.account.specs.Joining.{plus}
-use Rattle.account.specs.Answers.{badFieldOr, answered}
-use Rattle.account.specs.Portions.{portionAnswer, accounted}
+use Rattle.account.specs.Ceilings.{Within}
+use Rattle.account.specs.Joining.{joining}
+use Rattle.account.specs.Answers.{doneWith, refusedBy, answered}
+use Rattle.account.specs.Portions.{portionRefusals, engineOrBad, accounted}
 use Rattle.account.specs.Groupings.{GoodHauled}
 use Rattle.account.specs.declared.Account.{Account}
 use Rattle.account.specs.declared.Answer.the-variants.{NotWhole, TooMany, BadField, WorkingEngine}
 use Rattle.account.proofs.Lists.{some-append, every-append}
 use Rattle.account.proofs.Ceils.{portion-ceilings}
-use Rattle.account.proofs.Joins.{account-append, each-hauled, accepted, refusal}
+use Rattle.account.proofs.Joins.{account-append, each-hauled}
 
 -- ---- working engines
 pub none-working : (xs : List Vehicle) → Every GoodHauled xs → some isWorking xs ≡ false
@@ -36,9 +35,9 @@ none-working (x ∷ xs) e = ap₂ _||_ (ne-eqb (x .kind) 2 (λ q. omega (arith, 
 some-there : {A : Type 0} (p : A → Bool) (xs : List A) (x : A) (ys : List A) → p x ≡ true → some p (xs ++ x ∷ ys) ≡ true
 some-there p xs x ys e = some-append p xs (x ∷ ys) ∙ ap (λ (b : Bool). some p xs || (b || some p ys)) e ∙ or-true (some p xs)
 
-pub working-there : (bs : List ℕ) (i : ℕ) → i < count bs → isWorking (vehicle (recordAt bs i)) ≡ true → some isWorking (vehicles bs) ≡ true
+pub working-there : (bs : List ℕ) (i : ℕ) → i < recordCount bs → isWorking (vehicle (recordAt bs i)) ≡ true → some isWorking (vehicles bs) ≡ true
 working-there bs i h e =
-    ap (λ (rs : List (List ℕ)). some isWorking (map vehicle rs)) (records-split (count bs) i bs h)
+    ap (λ (rs : List (List ℕ)). some isWorking (map vehicle rs)) (records-split (recordCount bs) i bs h)
     ∙ ap (some isWorking) (map-append vehicle (records i bs) (recordAt bs i ∷ _))
     ∙ some-there isWorking (map vehicle (records i bs)) (vehicle (recordAt bs i)) _ e
 
@@ -61,7 +60,7 @@ module _ (bs : List ℕ) (i : ℕ) (before : Every GoodHauled (map vehicle (reco
   pub each-more : GoodHauled (vehicle (recordAt bs i)) → Every GoodHauled (map vehicle (records (i + 1) bs))
   each-more g = rw (add-one, vehicles-snoc) (every-append GoodHauled (map vehicle (records i bs)) (vehicle (recordAt bs i) ∷ []) before (g, tt))
 
-  pub account-more : plus (accountOf (map vehicle (records i bs))) (accountOf (vehicle (recordAt bs i) ∷ [])) ≡ accountOf (map vehicle (records (i + 1) bs))
+  pub account-more : joining (accountOf (map vehicle (records i bs))) (accountOf (vehicle (recordAt bs i) ∷ [])) ≡ accountOf (map vehicle (records (i + 1) bs))
   account-more = rw (add-one, vehicles-snoc) (sym (account-append (map vehicle (records i bs)) (vehicle (recordAt bs i) ∷ []) (each-hauled (map vehicle (records i bs)) before)))
 
   pub within-before : i ≤ 200 → Within (accountOf (map vehicle (records i bs)))
@@ -73,32 +72,32 @@ pub within-one : (v : Vehicle) → GoodHauled v → Within (accountOf (v ∷ [])
 within-one v g = portion-ceilings (v ∷ []) (record { each = (g, tt); few = omega arith })
 
 -- ---- the answers, in document 01's order
-engine-refused : (f : Found) (a : Account) → refusal (badFieldOr f WorkingEngine) ≡ answered (badFieldOr f WorkingEngine) a
-engine-refused (At place) a = refl
-engine-refused Nothing a = refl
+engine-refused : (fine : Bool) (place : ℕ) (a : Account)
+    → refusedBy (cond fine WorkingEngine (BadField place)) ≡ answered (cond (not fine) (BadField place) WorkingEngine) a
+engine-refused true place a = refl
+engine-refused false place a = refl
 
 module _ (bs : List ℕ) where
-  pub answer-1 : (length bs % 24 ≡ 0 → ⊥) → refusal NotWhole ≡ accounted bs
-  unfolding portionAnswer
+  pub answer-1 : (length bs % 24 ≡ 0 → ⊥) → refusedBy NotWhole ≡ accounted bs
+  unfolding portionRefusals
   answer-1 h = simp (ne-eqb (length bs % 24) 0 h)
 
   module _ (whole : length bs % 24 ≡ 0) where
-    pub answer-2 : 200 < count bs → refusal TooMany ≡ accounted bs
-    unfolding portionAnswer
-    answer-2 h = simp (eq-eqb (length bs % 24) 0 whole, lt-ltb 200 (count bs) h)
+    pub answer-2 : 200 < recordCount bs → refusedBy TooMany ≡ accounted bs
+    unfolding portionRefusals
+    answer-2 h = simp (eq-eqb (length bs % 24) 0 whole, lt-ltb 200 (recordCount bs) h)
 
-    module _ (few : count bs ≤ 200) where
-      pub answer-3 : (i : ℕ) → firstBad (recordsOf bs) ≡ At i → refusal (BadField i) ≡ accounted bs
-      unfolding portionAnswer
-      answer-3 i e = simp (eq-eqb (length bs % 24) 0 whole, le-ltb 200 (count bs) few, e)
+    module _ (few : recordCount bs ≤ 200) where
+      pub answer-3 : (i : ℕ) → (all good (recordsOf bs) ≡ false) × (leading good (recordsOf bs) ≡ i) → refusedBy (BadField i) ≡ accounted bs
+      unfolding portionRefusals
+      answer-3 i e = simp (eq-eqb (length bs % 24) 0 whole, le-ltb 200 (recordCount bs) few, e .0, e .1)
 
-      pub answer-6 : some isWorking (vehicles bs) ≡ true → refusal (badFieldOr (firstBad (recordsOf bs)) WorkingEngine) ≡ accounted bs
-      unfolding portionAnswer
+      pub answer-6 : some isWorking (vehicles bs) ≡ true → refusedBy (engineOrBad (recordsOf bs)) ≡ accounted bs
+      unfolding portionRefusals
       answer-6 e =
-          simp (eq-eqb (length bs % 24) 0 whole, le-ltb 200 (count bs) few, e)
-          (engine-refused (firstBad (recordsOf bs)) (accountOf (vehicles bs)))
+          simp (eq-eqb (length bs % 24) 0 whole, le-ltb 200 (recordCount bs) few, e)
+          (engine-refused (all good (recordsOf bs)) (leading good (recordsOf bs)) (accountOf (vehicles bs)))
 
-      pub answer-0 : firstBad (recordsOf bs) ≡ Nothing → some isWorking (vehicles bs) ≡ false
-          → accepted (accountOf (vehicles bs)) ≡ accounted bs
-      unfolding portionAnswer
-      answer-0 e w = simp (eq-eqb (length bs % 24) 0 whole, le-ltb 200 (count bs) few, e, w)
+      pub answer-0 : all good (recordsOf bs) ≡ true → some isWorking (vehicles bs) ≡ false → doneWith (accountOf (vehicles bs)) ≡ accounted bs
+      unfolding portionRefusals
+      answer-0 e w = simp (eq-eqb (length bs % 24) 0 whole, le-ltb 200 (recordCount bs) few, e, w)

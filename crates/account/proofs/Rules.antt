@@ -7,7 +7,8 @@ use mathlib.Core.List.{List, [], _∷_, _++_, map}
 use borrow.Author.Tests.{lt-ltb, le-ltb}
 use lib.Dec.{ltb}
 use lib.ListN.{take, drop, replicate, take-append-drop}
-use Rattle.account.specs.Figures.{count, some, firstIs, leading, firsts}
+use Rattle.record.specs.Words.{leading}
+use Rattle.account.specs.Figures.{count, some, firstIs, firsts}
 use Rattle.account.proofs.Lists.{count-append, some-count}
 
 lead-one : (b : Bool) (n : ℕ) → b ≡ ltb 0 (cond b (suc n) 0)

@@ -12,8 +12,8 @@ use lib.ListN.{length, getD, take, length-take, length-append, List·getD-append
 use lib.Seq.{take-suc, getD-append-add}
 use native.Mathlib.Decide.{decLt}
 use Rattle.record.specs.Words.{all}
-use Rattle.record.specs.Records.{count, recordAt, recordsOf}
-use Rattle.record.proofs.Records.{length-records, records-at, record-length}
+use Rattle.record.specs.Records.{recordCount, recordsOf}
+use Rattle.record.proofs.Records.{recordAt, length-records, records-at, record-length}
 use Rattle.record.proofs.Vehicles.{all-not}
 use Rattle.account.specs.Speed.{firstWith, byte20, slowestOf, wholeGood, holdsTheSpeed, Holds}
 
@@ -150,30 +150,30 @@ slowest-alone (x ∷ xs) h = sym (slowest-through x [])
 
 -- ---- the records of two portions in order
 module _ (front back : List ℕ) (k : ℕ) where
-  pub record-front : k < count front → recordAt front k ≡ getD (recordsOf front ++ recordsOf back) k []
+  pub record-front : k < recordCount front → recordAt front k ≡ getD (recordsOf front ++ recordsOf back) k []
   record-front h =
       sym
-      (List·getD-append (recordsOf front) (recordsOf back) [] k (omega (arith, length-records (count front) front))
-      ∙ records-at (count front) front k h)
+      (List·getD-append (recordsOf front) (recordsOf back) [] k (omega (arith, length-records (recordCount front) front))
+      ∙ records-at (recordCount front) front k h)
 
-  pub record-back : count front ≤ k → k < count front + count back → recordAt back (k - count front) ≡ getD (recordsOf front ++ recordsOf back) k []
+  pub record-back : recordCount front ≤ k → k < recordCount front + recordCount back → recordAt back (k - recordCount front) ≡ getD (recordsOf front ++ recordsOf back) k []
   record-back h l =
-      let e : length (recordsOf front) + (k - count front) ≡ k = omega (arith, length-records (count front) front) in
+      let e : length (recordsOf front) + (k - recordCount front) ≡ k = omega (arith, length-records (recordCount front) front) in
       sym
       (ap (λ (j : ℕ). getD (recordsOf front ++ recordsOf back) j []) (sym e)
-      ∙ getD-append-add (recordsOf front) (recordsOf back) (k - count front) []
-      ∙ records-at (count back) back (k - count front) (omega arith))
+      ∙ getD-append-add (recordsOf front) (recordsOf back) (k - recordCount front) []
+      ∙ records-at (recordCount back) back (k - recordCount front) (omega arith))
 
-  pub record-24 : k < count front + count back → length (getD (recordsOf front ++ recordsOf back) k []) ≡ 24
-  record-24 l = go (decLt k (count front))
+  pub record-24 : k < recordCount front + recordCount back → length (getD (recordsOf front ++ recordsOf back) k []) ≡ 24
+  record-24 l = go (decLt k (recordCount front))
     where
-      go : Dec (k < count front) → length (getD (recordsOf front ++ recordsOf back) k []) ≡ 24
+      go : Dec (k < recordCount front) → length (getD (recordsOf front ++ recordsOf back) k []) ≡ 24
       go (yes h) = ap length (sym (record-front h)) ∙ record-length front k (omega arith)
-      go (no h) = ap length (sym (record-back (omega arith) l)) ∙ record-length back (k - count front) (omega arith)
+      go (no h) = ap length (sym (record-back (omega arith) l)) ∙ record-length back (k - recordCount front) (omega arith)
 
-pub length-two : (front back : List ℕ) → length (recordsOf front ++ recordsOf back) ≡ count front + count back
+pub length-two : (front back : List ℕ) → length (recordsOf front ++ recordsOf back) ≡ recordCount front + recordCount back
 length-two front back =
-    omega (arith, length-append (recordsOf front) (recordsOf back), length-records (count front) front, length-records (count back) back)
+    omega (arith, length-append (recordsOf front) (recordsOf back), length-records (recordCount front) front, length-records (recordCount back) back)
 
 length-zero : {A : Type 0} (xs : List A) → length xs ≡ 0 → xs ≡ []
 length-zero [] e = refl
@@ -186,20 +186,20 @@ module _ (front back : List ℕ) where
   speed-bad e = simp e
 
   module _ (good : (wholeGood front && wholeGood back) ≡ true) where
-    pub speed-many : 200 < count front + count back → [] ≡ holdsTheSpeed front back
+    pub speed-many : 200 < recordCount front + recordCount back → [] ≡ holdsTheSpeed front back
     unfolding holdsTheSpeed
-    speed-many h = simp (good, lt-leb (count front + count back) 200 h)
+    speed-many h = simp (good, lt-leb (recordCount front + recordCount back) 200 h)
 
-    pub speed-found : count front + count back ≤ 200 → slowestOf (recordsOf front ++ recordsOf back) ≡ holdsTheSpeed front back
+    pub speed-found : recordCount front + recordCount back ≤ 200 → slowestOf (recordsOf front ++ recordsOf back) ≡ holdsTheSpeed front back
     unfolding holdsTheSpeed
-    speed-found h = simp (good, le-leb (count front + count back) 200 h)
+    speed-found h = simp (good, le-leb (recordCount front + recordCount back) 200 h)
 
-    pub speed-empty : count front + count back ≡ 0 → [] ≡ holdsTheSpeed front back
+    pub speed-empty : recordCount front + recordCount back ≡ 0 → [] ≡ holdsTheSpeed front back
     unfolding slowestOf firstWith
     speed-empty h =
         ap slowestOf (sym (length-zero (recordsOf front ++ recordsOf back) (length-two front back ∙ h))) ∙ speed-found (omega arith)
 
-pub two-hold : (front back : List ℕ) → (wholeGood front && wholeGood back) ≡ true → 0 < count front + count back → count front + count back ≤ 200
+pub two-hold : (front back : List ℕ) → (wholeGood front && wholeGood back) ≡ true → 0 < recordCount front + recordCount back → recordCount front + recordCount back ≤ 200
     → Holds (recordsOf front ++ recordsOf back) (holdsTheSpeed front back)
 two-hold front back good some few =
     subst (Holds (recordsOf front ++ recordsOf back)) (speed-found front back good few)

@@ -3,9 +3,10 @@ use Prim.Native.Nat.{ℕ}
 use mathlib.Core.Bool.{not, _&&_, cond}
 use mathlib.Core.List.{List, [], _∷_}
 use lib.ListN.{length}
+use Rattle.record.specs.Words.{leading}
 use Rattle.record.specs.Vehicles.{isWagon, isHauledEngine, isIsolated, isM, isV, isR, isJoined, hasMatrossow, hasDLoad}
 use Rattle.record.specs.declared.vehicle.Vehicle.{Vehicle}
-use Rattle.account.specs.Figures.{sum, count, some, leading, trailing, longest, behind, least, firsts}
+use Rattle.account.specs.Figures.{sum, count, some, trailing, longest, behind, least, firsts}
 use Rattle.account.specs.declared.Account.{Account}
 
 unfoldable pub accountOf : List Vehicle → Account
@@ -40,6 +41,10 @@ accountOf xs =
       -- the settings of the first five, 4 where there is none
       first = firsts 5 4 (λ v. v .setting) xs;
     }
+
+-- the account of no vehicle
+abbrev pub empty : Account
+empty = accountOf []
 
 -- the sums among the figures
 abbrev pub sums : Account → List ℕ

@@ -1,10 +1,9 @@
 -- Document 01, "Answers that yield no sheet", as far as accounts give them: the number and the place of each answer.
 use Prim.Native.Nat.{ℕ}
-use mathlib.Core.Bool.{cond}
+use mathlib.Core.Bool.{Bool, cond}
+use mathlib.Core.List.{List, [], _∷_}
 use Rattle.record.specs.Words.{_is_}
-use Rattle.record.specs.declared.vehicle.Found.{Found}
-use Rattle.record.specs.declared.vehicle.Found.the-variants.{At, Nothing}
-use Rattle.account.specs.Joining.{empty}
+use Rattle.account.specs.Accounts.{empty}
 use Rattle.account.specs.declared.Account.{Account}
 use Rattle.account.specs.declared.Accounted.{Accounted}
 use Rattle.account.specs.declared.Answer.{Answer}
@@ -27,11 +26,25 @@ placeOf (BadField place) = place
 placeOf WorkingEngine = 0
 placeOf AboveCeiling = 0
 
--- refusal 3 where there is a bad record, and else the next answer
-abbrev pub badFieldOr : Found → Answer → Answer
-badFieldOr (At place) next = BadField place
-badFieldOr Nothing next = next
+-- a refusal, and whether it applies
+pub record Refusal : Type 0 where
+  pub answer : Answer
+  pub applies : Bool
+
+abbrev pub refusal : Answer → Bool → Refusal
+refusal answer applies = record { answer = answer; applies = applies }
+
+-- the first that applies; number 0 where none does
+abbrev pub firstThatApplies : List Refusal → Answer
+firstThatApplies [] = Done
+firstThatApplies (r ∷ rs) = cond (r .applies) (r .answer) (firstThatApplies rs)
 
 -- number 0 is done; a refusal returns the empty account
 abbrev pub answered : Answer → Account → Accounted
 answered answer account = record { answer = answer; account = cond (numberOf answer is 0) account empty }
+
+abbrev pub doneWith : Account → Accounted
+doneWith account = record { answer = Done; account = account }
+
+abbrev pub refusedBy : Answer → Accounted
+refusedBy answer = record { answer = answer; account = empty }

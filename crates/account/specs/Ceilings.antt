@@ -3,7 +3,7 @@ use Prim.Native.Nat.{ℕ, _≤_}
 use mathlib.Core.Bool.{Bool}
 use mathlib.Core.List.{List, [], _∷_}
 use lib.ListN.{getD}
-use Rattle.record.specs.Words.{_atMost_, all}
+use Rattle.record.specs.Words.{_atMost_, all, Every}
 use Rattle.account.specs.declared.Account.{Account}
 
 -- a figure with its ceiling
@@ -42,11 +42,6 @@ figures a =
 -- no figure is above its ceiling
 unfoldable pub within : Account → Bool
 within a = all (λ f. f .figure atMost f .ceiling) (figures a)
-
--- every member has P
-abbrev pub Every : {A : Type 0} → (A → Type 0) → List A → Type 0
-Every P [] = Unit
-Every P (x ∷ xs) = P x × Every P xs
 
 -- the same as a statement, which the additions of joining ask for
 abbrev pub Within : Account → Type 0

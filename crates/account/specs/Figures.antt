@@ -1,8 +1,9 @@
 -- Figures of a list in order, each over the list's own members.
-use Prim.Native.Nat.{ℕ, suc, _+_, min, max}
+use Prim.Native.Nat.{ℕ, _+_, min, max}
 use mathlib.Core.Bool.{Bool, false, _&&_, _||_, cond}
 use mathlib.Core.List.{List, [], _∷_, _++_, map, reverse}
 use lib.ListN.{take, replicate}
+use Rattle.record.specs.Words.{leading}
 
 module _ {A : Type 0} where
   -- the sum of f
@@ -28,12 +29,7 @@ module _ {A : Type 0} where
   abbrev pub lastIs : (A → Bool) → List A → Bool
   lastIs p xs = firstIs p (reverse xs)
 
-  -- how many have p from the first on, up to one that has it not
-  abbrev pub leading : (A → Bool) → List A → ℕ
-  leading p [] = 0
-  leading p (x ∷ xs) = cond (p x) (suc (leading p xs)) 0
-
-  -- the same from the last
+  -- how many have p from the last on, up to one that has it not
   abbrev pub trailing : (A → Bool) → List A → ℕ
   trailing p xs = leading p (reverse xs)
 

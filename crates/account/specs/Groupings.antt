@@ -1,13 +1,15 @@
 -- Demand 3: hauled vehicles cut into portions anywhere, in order, and the portions joined in any grouping of neighbours.
-use Prim.Native.Nat.{ℕ, _%_, _≤_}
+use Prim.Native.Nat.{ℕ, _≤_}
 use mathlib.Core.Path.{_≡_}
 use mathlib.Core.Bool.{true}
 use mathlib.Core.List.{List, _++_}
 use lib.ListN.{length}
+use Rattle.record.specs.Words.{Every}
+use Rattle.record.specs.Records.{isWhole}
 use Rattle.record.specs.Vehicles.{good, vehicle}
 use Rattle.record.specs.declared.vehicle.Vehicle.{Vehicle}
 use Rattle.account.specs.Accounts.{accountOf}
-use Rattle.account.specs.Ceilings.{Every}
+use Rattle.account.specs.Answers.{doneWith}
 use Rattle.account.specs.Portions.{accounted, joined}
 use Rattle.account.specs.declared.Accounted.{Accounted}
 use Rattle.account.specs.declared.Answer.the-variants.{Done}
@@ -39,16 +41,23 @@ uncut (portion xs) = xs
 uncut (pair left right) = uncut left ++ uncut right
 
 -- the portions' accounts, joined as they are grouped
-abbrev pub joinedUp : Grouping Vehicle → Accounted
-joinedUp (portion hauled) = record { answer = Done; account = accountOf hauled }
-joinedUp (pair left right) = joined (joinedUp left .account) (joinedUp right .account)
+abbrev pub joinedUp : {A : Type 0} → (List A → Accounted) → Grouping A → Accounted
+joinedUp account (portion xs) = account xs
+joinedUp account (pair left right) = joined (joinedUp account left .account) (joinedUp account right .account)
 
--- the same of portions lent as bytes
+-- of portions of vehicles, and of portions lent as bytes
+abbrev pub joinedVehicles : Grouping Vehicle → Accounted
+joinedVehicles = joinedUp (λ hauled. doneWith (accountOf hauled))
+
 abbrev pub joinedBytes : Grouping ℕ → Accounted
-joinedBytes (portion bs) = accounted bs
-joinedBytes (pair left right) = joined (joinedBytes left .account) (joinedBytes right .account)
+joinedBytes = joinedUp accounted
 
 -- bytes cut between records
 abbrev pub BetweenRecords : Grouping ℕ → Type 0
-BetweenRecords (portion bs) = length bs % 24 ≡ 0
+BetweenRecords (portion bs) = isWhole bs ≡ true
 BetweenRecords (pair left right) = BetweenRecords left × BetweenRecords right
+
+-- no call over the grouping was refused
+abbrev pub NoneRefused : Grouping ℕ → Type 0
+NoneRefused (portion bs) = accounted bs .answer ≡ Done
+NoneRefused (pair left right) = NoneRefused left × NoneRefused right × (joinedBytes (pair left right) .answer ≡ Done)

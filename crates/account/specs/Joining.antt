@@ -1,7 +1,7 @@
 -- Document 01, "The account": joining, fixed for all accounts, also those that no list has.
 use Prim.Native.Nat.{ℕ, _+_, min, max}
-use mathlib.Core.Bool.{false, _&&_, _||_, cond}
-use mathlib.Core.List.{List, [], _∷_, _++_}
+use mathlib.Core.Bool.{_&&_, _||_, cond}
+use mathlib.Core.List.{List, _++_}
 use lib.ListN.{take}
 use Rattle.record.specs.Words.{_is_, _above_}
 use Rattle.account.specs.declared.Account.{Account}
@@ -14,8 +14,8 @@ onward run n next = cond (run is n) (run + next) run
 abbrev pub fill : ℕ → List ℕ → List ℕ → List ℕ
 fill n left right = take 5 (take n left ++ right)
 
-unfoldable pub plus : Account → Account → Account
-plus left right =
+unfoldable pub joining : Account → Account → Account
+joining left right =
     record {
       -- sums add
       count = left .count + right .count;
@@ -41,29 +41,4 @@ plus left right =
       -- the slower speed stays
       slowest = min (left .slowest) (right .slowest);
       first = fill (left .count) (left .first) (right .first);
-    }
-
-unfoldable pub empty : Account
-empty =
-    record {
-      count = 0;
-      mass = 0;
-      vmass = 0;
-      mmass = 0;
-      length = 0;
-      axles = 0;
-      vaxles = 0;
-      engines = 0;
-      mset = 0;
-      isolated = 0;
-      dloads = 0;
-      leading = 0;
-      trailing = 0;
-      longest = 0;
-      behind = false;
-      rule16 = false;
-      rule17 = false;
-      rule18 = false;
-      slowest = 200;
-      first = 4 ∷ 4 ∷ 4 ∷ 4 ∷ 4 ∷ [];
     }

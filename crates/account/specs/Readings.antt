@@ -1,4 +1,4 @@
--- Document 01: "Judging reads the rules over the figures".
+-- Document 01: "Judging reads the rules over the figures": what each asks over the records, and off an account.
 use mathlib.Core.Bool.{Bool}
 use mathlib.Core.List.{List}
 use lib.ListN.{take, drop}
@@ -22,14 +22,14 @@ lastIsolated hauled = lastIs isIsolated hauled
 abbrev pub lastIsolatedBy : Account → Bool
 lastIsolatedBy a = a .trailing above 0
 
--- 43: one of the first five hauled (all, if fewer) set to V
+-- in 43: one of the first five hauled (all, if fewer) set to V
 abbrev pub firstFiveV : List Vehicle → Bool
 firstFiveV hauled = some isV (take 5 hauled)
 
 abbrev pub firstFiveVBy : Account → Bool
 firstFiveVBy a = some (λ s. s is 2) (a .first)
 
--- 44: a hauled vehicle after the fifth set to M
+-- in 44: a hauled vehicle after the fifth set to M
 abbrev pub afterFifthM : List Vehicle → Bool
 afterFifthM hauled = some isM (drop 5 hauled)
 

@@ -1,11 +1,11 @@
 -- Document 01: "The vehicle that holds the speed is the one with the least byte 20."
-use Prim.Native.Nat.{ℕ, _+_, _%_, _≤_, _<_}
+use Prim.Native.Nat.{ℕ, _+_, _≤_, _<_}
 use mathlib.Core.Path.{_≡_}
 use mathlib.Core.Bool.{Bool, _&&_, cond}
 use mathlib.Core.List.{List, [], _∷_, _++_}
 use lib.ListN.{length, getD}
-use Rattle.record.specs.Words.{_is_, _atMost_, all}
-use Rattle.record.specs.Records.{count, recordsOf}
+use Rattle.record.specs.Words.{_atMost_, all}
+use Rattle.record.specs.Records.{recordCount, recordsOf, isWhole}
 use Rattle.record.specs.Vehicles.{good}
 
 -- the first record that has p, and no byte where there is none
@@ -22,18 +22,14 @@ slowestOf rs = firstWith (λ r. all (λ other. byte20 r atMost byte20 other) rs)
 
 -- whole good records of any kind
 unfoldable pub wholeGood : List ℕ → Bool
-wholeGood bs = length bs % 24 is 0 && all good (recordsOf bs)
+wholeGood bs = isWhole bs && all good (recordsOf bs)
 
 -- out of whichever portion has it; an empty part if both are empty, a portion is not whole good records, or they pass 200 together
 unfoldable pub holdsTheSpeed : List ℕ → List ℕ → List ℕ
 holdsTheSpeed front back =
-    cond (wholeGood front && wholeGood back && count front + count back atMost 200)
+    cond (wholeGood front && wholeGood back && recordCount front + recordCount back atMost 200)
     (slowestOf (recordsOf front ++ recordsOf back))
     []
-
--- n is how many records two portions have together
-abbrev pub TwoPortions : List ℕ → List ℕ → ℕ → Type 0
-TwoPortions front back n = n ≡ count front + count back
 
 -- r is the record that holds the speed of rs: at a place, least, and slower than each before it
 pub record Holds (rs : List (List ℕ)) (r : List ℕ) : Type 0 where

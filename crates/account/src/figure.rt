@@ -3,9 +3,8 @@ ghost use mathlib.Core.Path.{_≡_};
 ghost use mathlib.Core.Bool.{cond};
 ghost use mathlib.Core.List.{[], _∷_};
 ghost use Prim.Native.Nat.{min};
-ghost use Rattle.account.specs.Accounts.{accountOf};
+ghost use Rattle.account.specs.Accounts.{accountOf, empty};
 ghost use Rattle.account.specs.Ceilings.{within};
-ghost use Rattle.account.specs.Joining.{empty};
 use crate::Account;
 use record::vehicle::Vehicle;
 

@@ -2,7 +2,7 @@
 ghost use mathlib.Core.Path.{_≡_};
 ghost use Prim.Native.Nat.{_+_, _<_, _^_, max};
 ghost use Rattle.account.specs.Ceilings.{Within};
-ghost use Rattle.account.specs.Joining.{onward, fill, plus};
+ghost use Rattle.account.specs.Joining.{onward, fill, joining};
 use crate::Account;
 use crate::figure::lesser;
 
@@ -43,7 +43,7 @@ fn fill_first(n: u32, left: [u32; 5], right: [u32; 5]) -> [u32; 5]
 pub fn add(left: Account, right: Account) -> Account
     requires { ⌜ Within left ⌝ }
     requires { ⌜ Within right ⌝ }
-    ensures { λ r. ⌜ r ≡ plus left right ⌝ }
+    ensures { λ r. ⌜ r ≡ joining left right ⌝ }
 {
     let left_first = left.first;
     let right_first = right.first;

@@ -1,10 +1,8 @@
 // The account of a portion of hauled vehicles, joining, and the vehicle that holds the speed. Knows no category.
 ghost use mathlib.Core.Path.{_≡_};
 ghost use Rattle.record.specs.Records.{recordsOf};
-ghost use Rattle.record.specs.Vehicles.{firstBad};
-ghost use Rattle.account.specs.Answers.{badFieldOr};
-ghost use Rattle.account.specs.Joining.{empty};
-ghost use Rattle.account.specs.Portions.{accounted, joined};
+ghost use Rattle.account.specs.Answers.{doneWith, refusedBy};
+ghost use Rattle.account.specs.Portions.{accounted, engineOrBad, joined};
 ghost use Rattle.account.specs.Speed.{holdsTheSpeed};
 use record::vehicle::Found;
 use record::vehicle::Reading;
@@ -16,37 +14,50 @@ mod figure;
 mod joining;
 mod speed;
 
-// The figures of hauled records in order; marks are bools.
+// The figures of hauled records, in document 01's order.
 pub struct Account {
     pub count: u32,
     pub mass: u32,
+    // V masses of records set to V, M masses of records set to M
     pub vmass: u32,
     pub mmass: u32,
     pub length: u32,
+    // all axles, and those of records set to V
     pub axles: u32,
     pub vaxles: u32,
+    // hauled engines
     pub engines: u32,
+    // records set to M
     pub mset: u32,
     pub isolated: u32,
     pub dloads: u32,
+    // runs of isolated
     pub leading: u32,
     pub trailing: u32,
     pub longest: u32,
+    // an engine stands behind a wagon
     pub behind: bool,
+    // rules 16, 17, 18 are broken
     pub rule16: bool,
     pub rule17: bool,
     pub rule18: bool,
     pub slowest: u32,
+    // the settings of the first five, 4 where there is none
     pub first: [u32; 5],
 }
 
-// Done, or the refusals 1, 2, 3 with its place, 6, 7.
 pub enum Answer {
+    // 0
     Done,
+    // 1: not a multiple of 24 bytes
     NotWhole,
+    // 2: more than 200 records, or a joined figure above its ceiling
     TooMany,
+    // 3: a field out of range, in the record at this place
     BadField(usize),
+    // 6: a working engine in a portion offered as hauled
     WorkingEngine,
+    // 7: an account with a figure above its ceiling
     AboveCeiling,
 }
 
@@ -61,7 +72,7 @@ const MOST: usize = 200;
 
 // Number 0.
 fn done(account: Account) -> Accounted
-    ensures { λ r. ⌜ r ≡ record { answer = Answer.Done; account = account } ⌝ }
+    ensures { λ r. ⌜ r ≡ doneWith account ⌝ }
 {
     Accounted {
         answer: Answer::Done,
@@ -71,7 +82,7 @@ fn done(account: Account) -> Accounted
 
 // A refusal returns the empty account.
 fn refused(answer: Answer) -> Accounted
-    ensures { λ r. ⌜ r ≡ record { answer = answer; account = empty } ⌝ }
+    ensures { λ r. ⌜ r ≡ refusedBy answer ⌝ }
 {
     Accounted {
         answer: answer,
@@ -81,7 +92,7 @@ fn refused(answer: Answer) -> Accounted
 
 // Refusal 6 of a portion that has a working engine, unless 3 applies.
 fn engine_or_bad(portion: &[u8]) -> Answer
-    ensures { λ r. ⌜ r ≡ badFieldOr (firstBad (recordsOf (now (portion .entry)))) Answer.WorkingEngine ⌝ }
+    ensures { λ r. ⌜ r ≡ engineOrBad (recordsOf (now (portion .entry))) ⌝ }
 {
     match first_bad(portion) {
         Found::At(place) => Answer::BadField(place),

@@ -1,10 +1,10 @@
 // The vehicle that holds the speed, out of two portions in order.
 ghost use mathlib.Core.Path.{_≡_};
 ghost use mathlib.Core.List.{[], _++_};
-ghost use Prim.Native.Nat.{_<_};
+ghost use Prim.Native.Nat.{_+_, _<_};
 ghost use lib.ListN.{getD};
-ghost use Rattle.record.specs.Records.{recordsOf};
-ghost use Rattle.account.specs.Speed.{wholeGood, slowestOf, TwoPortions};
+ghost use Rattle.record.specs.Records.{recordCount, recordsOf};
+ghost use Rattle.account.specs.Speed.{wholeGood, slowestOf};
 use record::vehicle::Found;
 use record::vehicle::SIZE;
 use record::vehicle::first_bad;
@@ -23,8 +23,7 @@ pub fn is_whole_good(portion: &[u8]) -> bool
 
 // The record at place `k` of the two portions in order.
 fn record_at<'a>(front: &'a [u8], back: &'a [u8], n: usize, k: usize) -> &'a [u8]
-    requires { ⌜ TwoPortions (now front) (now back) n ⌝ }
-    requires { ⌜ k < n ⌝ }
+    requires { ⌜ (n ≡ recordCount (now front) + recordCount (now back)) × (k < n) ⌝ }
     ensures { λ r. ⌜ now r ≡ getD (recordsOf (now (front .entry)) ++ recordsOf (now (back .entry))) k [] ⌝ }
 {
     let ahead = front.len() / SIZE;
@@ -37,8 +36,7 @@ fn record_at<'a>(front: &'a [u8], back: &'a [u8], n: usize, k: usize) -> &'a [u8
 }
 
 pub fn slowest<'a>(front: &'a [u8], back: &'a [u8], n: usize) -> &'a [u8]
-    requires { ⌜ TwoPortions (now front) (now back) n ⌝ }
-    requires { ⌜ 0 < n ⌝ }
+    requires { ⌜ (n ≡ recordCount (now front) + recordCount (now back)) × (0 < n) ⌝ }
     ensures { λ r. ⌜ now r ≡ slowestOf (recordsOf (now (front .entry)) ++ recordsOf (now (back .entry))) ⌝ }
 {
     let mut best = record_at(front, back, n, 0);

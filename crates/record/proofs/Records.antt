@@ -6,7 +6,11 @@ use native.Mathlib.Nat.{zero-add, suc-add, not-suc-le-zero, le-of-suc-le-suc, ad
 use native.Mathlib.Omega.{arith}
 use lib.ListN.{length, getD, take, drop, length-drop, length-append}
 use lib.Seq.{drop-drop, length-take-le, take-append-le, drop-append-le, drop-at, take-all}
-use Rattle.record.specs.Records.{records, recordAt, count, recordsOf}
+use Rattle.record.specs.Records.{records, recordCount, recordsOf}
+
+-- the record at place i
+abbrev pub recordAt : List ℕ → ℕ → List ℕ
+recordAt bs i = take 24 (drop (24 * i) bs)
 
 record-step : (bs : List ℕ) (i : ℕ) → recordAt (drop 24 bs) i ≡ recordAt bs (suc i)
 record-step bs i =
@@ -63,15 +67,15 @@ records-in (suc n) a b h =
 -- two portions in order, the first of them whole records
 pub records-append : (a b : List ℕ) → length a % 24 ≡ 0 → recordsOf (a ++ b) ≡ recordsOf a ++ recordsOf b
 records-append a b h =
-    let l : length a ≡ 24 * count a = omega arith in
-    let n : count (a ++ b) ≡ count a + count b = omega (arith, length-append a b) in
+    let l : length a ≡ 24 * recordCount a = omega arith in
+    let n : recordCount (a ++ b) ≡ recordCount a + recordCount b = omega (arith, length-append a b) in
     ap (λ (m : ℕ). records m (a ++ b)) n
-    ∙ records-add (count a) (count b) (a ++ b)
-    ∙ ap₂ (λ (x y : List (List ℕ)). x ++ y) (records-in (count a) a b (omega arith)) (ap (records (count b)) (drop-at a b (24 * count a) l))
+    ∙ records-add (recordCount a) (recordCount b) (a ++ b)
+    ∙ ap₂ (λ (x y : List (List ℕ)). x ++ y) (records-in (recordCount a) a b (omega arith)) (ap (records (recordCount b)) (drop-at a b (24 * recordCount a) l))
 
 -- a file of one record
 pub record-alone : (r : List ℕ) → length r ≡ 24 → recordsOf r ≡ r ∷ []
 unfolding records
 record-alone r h =
-    let n : count r ≡ 1 = omega arith in
+    let n : recordCount r ≡ 1 = omega arith in
     ap (λ (m : ℕ). records m r) n ∙ ap (λ (x : List ℕ). x ∷ []) (take-all 24 r (omega arith))

@@ -10,17 +10,17 @@ use borrow.Author.Tests.{leb-true, eq-eqb, ne-eqb}
 use lib.Dec.{leb, eqb}
 use lib.ListN.{length, getD, take, drop, List·getD-map, length-take}
 use lib.Seq.{take-suc, take-all}
-use Rattle.record.specs.Words.{all}
+use Rattle.record.specs.Words.{all, leading}
 use Rattle.record.specs.Numbers.{littleEndian}
-use Rattle.record.specs.Records.{records, recordAt, recordsOf}
-use Rattle.record.specs.Vehicles.{Field, field, fields, nth, value, fieldGood, good, vehicle, reading, later, firstBad, vehicles}
+use Rattle.record.specs.Records.{records, recordsOf}
+use Rattle.record.specs.Vehicles.{Field, field, fields, nth, value, fieldGood, good, vehicle, reading, firstBad, vehicles}
 use Rattle.record.specs.declared.field.Field.{Field as Row}
 use Rattle.record.specs.declared.vehicle.Vehicle.{Vehicle}
 use Rattle.record.specs.declared.vehicle.Reading.the-variants.{Good, Bad}
 use Rattle.record.specs.declared.vehicle.Found.{Found}
 use Rattle.record.specs.declared.vehicle.Found.the-variants.{At, Nothing}
 use Rattle.record.proofs.Numbers.{Bytes, bytes-take, bytes-drop, number-below}
-use Rattle.record.proofs.Records.{part-record, records-snoc, records-split, length-records, records-append, record-alone}
+use Rattle.record.proofs.Records.{recordAt, part-record, records-snoc, records-split, length-records, records-append, record-alone}
 
 pub both : (p q : Bool) → (p && q) ≡ true → (p ≡ true) × (q ≡ true)
 both true q e = (refl, e)
@@ -115,37 +115,56 @@ pub records-more : (bs : List ℕ) (i : ℕ) → all good (records i bs) ≡ tru
 records-more bs i t e = rw (add-one, records-snoc) (all-snoc good (records i bs) (recordAt bs i) t e)
 
 -- ---- the first bad record
-bad-after : (xs : List (List ℕ)) (r : List ℕ) (ys : List (List ℕ)) → all good xs ≡ true → good r ≡ false → firstBad (xs ++ r ∷ ys) ≡ At (length xs)
-unfolding all firstBad
-bad-after [] r ys h e = rw e
-bad-after (x ∷ xs) r ys h e =
-    let t = both (good x) (all good xs) h in
-    rw (t .0, bad-after xs r ys (t .1) e)
-
-pub bad-none : (xs : List (List ℕ)) → all good xs ≡ true → firstBad xs ≡ Nothing
-unfolding all firstBad
-bad-none [] h = refl
-bad-none (x ∷ xs) h =
-    let t = both (good x) (all good xs) h in
-    rw (t .0, bad-none xs (t .1))
-
-pub bad-first : (n i : ℕ) (bs : List ℕ) → i < n → all good (records i bs) ≡ true → good (recordAt bs i) ≡ false → firstBad (records n bs) ≡ At i
-bad-first n i bs l h e = rw (records-split n i bs l) (bad-after (records i bs) (recordAt bs i) _ h e ∙ ap At (length-records i bs))
-
 abbrev pub isNothing : Found → Bool
 isNothing (At i) = false
 isNothing Nothing = true
 
--- there is no bad one exactly where all are good
-pub bad-is : (xs : List (List ℕ)) → isNothing (firstBad xs) ≡ all good xs
-unfolding all firstBad
-bad-is [] = refl
-bad-is (x ∷ xs) = go (good x) (firstBad xs) ∙ ap (λ (b : Bool). good x && b) (bad-is xs)
+-- there is none exactly where all are good
+pub bad-is : (rs : List (List ℕ)) → isNothing (firstBad rs) ≡ all good rs
+unfolding firstBad
+bad-is rs = go (all good rs)
   where
-    go : (g : Bool) (f : Found) → isNothing (cond g (later f) (At 0)) ≡ (g && isNothing f)
-    go true (At i) = refl
-    go true Nothing = refl
-    go false f = refl
+    go : (b : Bool) → isNothing (cond b Nothing (At (leading good rs))) ≡ b
+    go true = refl
+    go false = refl
+
+pub bad-none : (rs : List (List ℕ)) → all good rs ≡ true → firstBad rs ≡ Nothing
+unfolding firstBad
+bad-none rs h = rw h
+
+pub bad-place : (rs : List (List ℕ)) (place : ℕ) → At place ≡ firstBad rs → place ≡ leading good rs
+unfolding firstBad
+bad-place rs place e = go (all good rs) e
+  where
+    go : (b : Bool) → At place ≡ cond b Nothing (At (leading good rs)) → place ≡ leading good rs
+    go true e = absurd (let z : _≡_ {A = ℕ} 0 1 = cc in omega arith)
+    go false e = cc
+
+-- a bad record behind good ones
+module _ {A : Type 0} (p : A → Bool) (x : A) (bad : p x ≡ false) (ys : List A) where
+  leading-to : (xs : List A) → all p xs ≡ true → leading p (xs ++ x ∷ ys) ≡ length xs
+  unfolding all
+  leading-to [] h = rw bad
+  leading-to (w ∷ xs) h =
+      let t = both (p w) (all p xs) h in
+      rw (t .0) (ap suc (leading-to xs (t .1)))
+
+  all-but : (xs : List A) → all p (xs ++ x ∷ ys) ≡ false
+  unfolding all
+  all-but xs = all-append p xs (x ∷ ys) ∙ ap (λ (b : Bool). all p xs && (b && all p ys)) bad ∙ and-false (all p xs)
+
+module _ (n i : ℕ) (bs : List ℕ) (within : i < n) (before : all good (records i bs) ≡ true) (bad : good (recordAt bs i) ≡ false) where
+  pub first-place : (all good (records n bs) ≡ false) × (leading good (records n bs) ≡ i)
+  first-place =
+      let rest = records (n - suc i) (drop 24 (drop (24 * i) bs)) in
+      let split = records-split n i bs within in (
+        ap (all good) split ∙ all-but good (recordAt bs i) bad rest (records i bs),
+        ap (leading good) split ∙ leading-to good (recordAt bs i) bad rest (records i bs) before ∙ length-records i bs,
+      )
+
+  pub bad-first : firstBad (records n bs) ≡ At i
+  unfolding firstBad
+  bad-first = rw (first-place .0) (ap At (first-place .1))
 
 -- ---- what a record reads as
 pub reading-bad : (r : List ℕ) → good r ≡ false → Bad ≡ reading r

@@ -1,11 +1,9 @@
 -- Document 01: "A file is records of one fixed size, with no header."
-use Prim.Native.Nat.{ℕ, zero, suc, _*_, _/_}
+use Prim.Native.Nat.{ℕ, zero, suc, _/_, _%_}
+use mathlib.Core.Bool.{Bool}
 use mathlib.Core.List.{List, [], _∷_}
 use lib.ListN.{length, take, drop}
-
--- the record that is number i, counted from 0
-abbrev pub recordAt : List ℕ → ℕ → List ℕ
-recordAt bs i = take 24 (drop (24 * i) bs)
+use Rattle.record.specs.Words.{_is_}
 
 -- the first n records, in order
 unfoldable pub records : ℕ → List ℕ → List (List ℕ)
@@ -13,8 +11,13 @@ records zero bs = []
 records (suc n) bs = take 24 bs ∷ records n (drop 24 bs)
 
 -- how many whole records there are
-abbrev pub count : List ℕ → ℕ
-count bs = length bs / 24
+abbrev pub recordCount : List ℕ → ℕ
+recordCount bs = length bs / 24
 
+-- all whole records; bytes after the last are left out
 abbrev pub recordsOf : List ℕ → List (List ℕ)
-recordsOf bs = records (count bs) bs
+recordsOf bs = records (recordCount bs) bs
+
+-- a multiple of 24 bytes
+abbrev pub isWhole : List ℕ → Bool
+isWhole bs = length bs % 24 is 0

@@ -1,9 +1,9 @@
 -- Document 01, "The vehicle record, 24 bytes": its fields and their ranges, what is good, what a good record says, refusal 3.
-use Prim.Native.Nat.{ℕ, suc}
+use Prim.Native.Nat.{ℕ}
 use mathlib.Core.List.{List, [], _∷_, map}
 use mathlib.Core.Bool.{Bool, _&&_, cond}
 use lib.ListN.{length, getD, take, drop}
-use Rattle.record.specs.Words.{_is_, _atMost_, all}
+use Rattle.record.specs.Words.{_is_, _atMost_, all, leading}
 use Rattle.record.specs.Numbers.{littleEndian}
 use Rattle.record.specs.Records.{recordsOf}
 use Rattle.record.specs.declared.vehicle.Vehicle.{Vehicle}
@@ -52,6 +52,7 @@ fields =
     ∷ field 23 1 0 0
     ∷ []
 
+-- the field at a place of the table, counted from 0
 abbrev pub nth : ℕ → Field
 nth f = getD fields f (field 0 0 0 0)
 
@@ -93,15 +94,9 @@ reading r = cond (good r) (Good (vehicle r)) Bad
 abbrev pub vehicles : List ℕ → List Vehicle
 vehicles bs = map vehicle (recordsOf bs)
 
--- one place further, where there is one
-abbrev pub later : Found → Found
-later (At i) = At (suc i)
-later Nothing = Nothing
-
 -- 3: the place is the first record with a field out of range, counted from 0
 unfoldable pub firstBad : List (List ℕ) → Found
-firstBad [] = Nothing
-firstBad (r ∷ rs) = cond (good r) (later (firstBad rs)) (At 0)
+firstBad rs = cond (all good rs) Nothing (At (leading good rs))
 
 -- byte 17, the kind
 abbrev pub isWagon : Vehicle → Bool

@@ -1,6 +1,6 @@
 -- The words that a test is written in.
-use Prim.Native.Nat.{ℕ}
-use mathlib.Core.Bool.{Bool, true, _&&_}
+use Prim.Native.Nat.{ℕ, suc}
+use mathlib.Core.Bool.{Bool, true, _&&_, cond}
 use mathlib.Core.List.{List, [], _∷_}
 use lib.Dec.{ltb, leb, eqb}
 
@@ -14,7 +14,17 @@ x above n = ltb n x
 abbrev pub _atMost_ : ℕ → ℕ → Bool
 x atMost n = leb x n
 
--- every member passes
+-- whether every member passes
 unfoldable pub all {ℓ} : {A : Type ℓ} → (A → Bool) → List A → Bool
 all p [] = true
 all p (x ∷ xs) = p x && all p xs
+
+-- how many pass from the first on, up to one that does not
+abbrev pub leading : {A : Type 0} → (A → Bool) → List A → ℕ
+leading p [] = 0
+leading p (x ∷ xs) = cond (p x) (suc (leading p xs)) 0
+
+-- every member has P
+abbrev pub Every : {A : Type 0} → (A → Type 0) → List A → Type 0
+Every P [] = Unit
+Every P (x ∷ xs) = P x × Every P xs

@@ -8,18 +8,25 @@ use crate::field::FIELDS;
 use crate::field::is_in_range;
 use crate::field::value_of;
 
+// What a good record says, in document 01's order and units: tenths of a tonne, decimetres, km/h.
 pub struct Vehicle {
     pub number: u64,
     pub mass: u32,
+    // braked mass in V, in M
     pub vmass: u32,
     pub mmass: u32,
     pub length: u32,
     pub axles: u32,
+    // 0 wagon, 1 hauled engine, 2 working engine
     pub kind: u32,
+    // 0 isolated, 1 M, 2 V, 3 R
     pub setting: u32,
+    // 1 joined to the brake pipe
     pub joined: u32,
     pub speed: u32,
+    // 1 Matrossow brake, or no graduated release
     pub matrossow: u32,
+    // 1 D load
     pub dload: u32,
 }
 

@@ -6,16 +6,17 @@ use mathlib.Core.Bool.{true}
 use mathlib.Core.List.{[], _∷_, map}
 use borrow.Author.Tests.{eq-eqb}
 use denote.Ref.{now}
-use Rattle.record.specs.Words.{all}
-use Rattle.record.specs.Records.{count, records, recordAt}
+use Rattle.record.specs.Words.{all, Every}
+use Rattle.record.specs.Records.{recordCount, records}
+use Rattle.record.proofs.Records.{recordAt}
 use Rattle.record.specs.Vehicles.{good, vehicle, vehicles, isWorking}
 use Rattle.record.specs.declared.vehicle.Vehicle.{Vehicle}
-use Rattle.record.proofs.Vehicles.{part-good, part-bad, records-more, bad-first, bad-none}
+use Rattle.record.proofs.Vehicles.{part-good, part-bad, records-more, first-place}
 use Rattle.account.specs.Accounts.{accountOf}
-use Rattle.account.specs.Ceilings.{Every, Within}
-use Rattle.account.specs.Joining.{plus}
+use Rattle.account.specs.Answers.{doneWith, refusedBy}
+use Rattle.account.specs.Ceilings.{Within}
+use Rattle.account.specs.Joining.{joining}
 use Rattle.account.specs.Groupings.{GoodHauled}
-use Rattle.account.proofs.Joins.{account-none, accepted, refusal}
 use Rattle.account.proofs.Portions.{none-working, working-there, read-hauled, each-more, account-more, within-before, within-one, answer-1, answer-2, answer-3, answer-6, answer-0}
 use borrow.Author.Needs.{needs}
 use Rattle.account.proofs.account_of.Statement.{statement}
@@ -48,7 +49,7 @@ empty-account-requires c κs = search needs
 
 loop-holds : tie.Need-loop-holds Inv-loop μ-loop
 unfolding all records
-loop-holds c = (omega arith, c .empty-account .ensures ∙ sym account-none, refl, tt)
+loop-holds c = (omega arith, c .empty-account .ensures, refl, tt)
 
 mul-at : tie.Need-mul-at Inv-loop μ-loop
 mul-at c = search needs
@@ -83,7 +84,7 @@ returns-3 c =
     let l = c .before .before .before .before .before .before .loop in
     let bad = part-bad bs (l .i) (sym (c .before .enum-told .given .1) ∙ c .before .before .before .read .ensures) in
     c .refused3 .ensures
-    ∙ answer-3 bs (c .before .before .before .before .before .before .before .before .before .if1 .left) (c .before .before .before .before .before .before .before .before .if2 .left) (l .i) (bad-first _ (l .i) bs (c .before .before .before .before .before .loop-test .taken) (l .inv .2) bad)
+    ∙ answer-3 bs (c .before .before .before .before .before .before .before .before .before .if1 .left) (c .before .before .before .before .before .before .before .before .if2 .left) (l .i) (first-place _ (l .i) bs (c .before .before .before .before .before .loop-test .taken) (l .inv .2) bad)
 
 engine-or-bad-requires : tie.Need-engine-or-bad-requires Inv-loop μ-loop
 engine-or-bad-requires c κs = search needs
@@ -98,7 +99,7 @@ returns-4 c =
     let g = part-good bs (l .i) _ (sym (c .before .before .before .before .before .vehicle .given .1) ∙ c .before .before .before .before .before .before .before .read .ensures) in
     let w : isWorking (vehicle (recordAt bs (l .i))) ≡ true = eq-eqb _ 2 (sym (ap (λ (v : Vehicle). v .kind) (g .1)) ∙ c .before .before .if3 .taken) in
     c .refused4 .ensures
-    ∙ ap refusal (c .before .engine-or-bad .ensures)
+    ∙ ap refusedBy (c .before .engine-or-bad .ensures)
     ∙ answer-6 bs (c .before .before .before .before .before .before .before .before .before .before .before .before .before .if1 .left) (c .before .before .before .before .before .before .before .before .before .before .before .before .if2 .left) (working-there bs (l .i) (c .before .before .before .before .before .before .before .before .before .loop-test .taken) w)
 
 account-of-one-requires : tie.Need-account-of-one-requires Inv-loop μ-loop
@@ -126,7 +127,7 @@ loop-again c =
     let g = read-hauled bs (l .i) _ (sym (c .before .before .before .before .before .vehicle .given .1) ∙ c .before .before .before .before .before .before .before .read .ensures) (c .before .before .if3 .left) in (
       omega arith,
       c .add .ensures
-          ∙ ap₂ plus (l .inv .1) (c .before .account-of-one .ensures ∙ ap (λ (v : Vehicle). accountOf (v ∷ [])) (g .1))
+          ∙ ap₂ joining (l .inv .1) (c .before .account-of-one .ensures ∙ ap (λ (v : Vehicle). accountOf (v ∷ [])) (g .1))
           ∙ account-more bs (l .i) (l .inv .3),
       records-more bs (l .i) (l .inv .2) (g .0),
       each-more bs (l .i) (l .inv .3) (g .2),
@@ -139,12 +140,12 @@ returns-5 : tie.Need-returns-5 Inv-loop μ-loop
 returns-5 c =
     let bs = now (c .before .before .before .before .before .before .before .args .portion) in
     let l = c .before .before .loop in
-    let z : l .i ≡ count bs = omega arith in
+    let z : l .i ≡ recordCount bs = omega arith in
     let good = l .inv .2 in
     let each = l .inv .3 in
     c .done .ensures
-    ∙ ap accepted (l .inv .1 ∙ ap (λ (n : ℕ). accountOf (map vehicle (records n bs))) z)
-    ∙ answer-0 bs (c .before .before .before .before .before .if1 .left) (c .before .before .before .before .if2 .left) (bad-none _ (rw z at good)) (none-working (vehicles bs) (rw z at each))
+    ∙ ap doneWith (l .inv .1 ∙ ap (λ (n : ℕ). accountOf (map vehicle (records n bs))) z)
+    ∙ answer-0 bs (c .before .before .before .before .before .if1 .left) (c .before .before .before .before .if2 .left) (rw z at good) (none-working (vehicles bs) (rw z at each))
 
 pub account-of-spec : {M : Type 1} → statement M
 account-of-spec =

@@ -4,8 +4,9 @@ use mathlib.Core.Bool.{_&&_}
 use borrow.Author.Tests.{not-true, not-false}
 use Rattle.record.proofs.Vehicles.{both}
 use Rattle.account.specs.Ceilings.{within}
+use Rattle.account.specs.Answers.{doneWith}
 use Rattle.account.proofs.Ceils.{test-within}
-use Rattle.account.proofs.Joins.{accepted, joined-above, joined-many, joined-done}
+use Rattle.account.proofs.Joins.{joined-above, joined-many, joined-done}
 use borrow.Author.Needs.{needs}
 use Rattle.account.proofs.join.Statement.{statement}
 use Rattle.account.proofs.join.Tie as tie
@@ -47,7 +48,7 @@ done-requires c κs = search needs
 returns-3 : tie.Need-returns-3
 returns-3 c =
     c .done .ensures
-    ∙ ap accepted (c .before .before .before .add .ensures)
+    ∙ ap doneWith (c .before .before .before .add .ensures)
     ∙ joined-done _ _
     (sym (ap₂ _&&_ (c .before .before .before .before .before .before .is-within .ensures) (c .before .before .before .before .before .is-within2 .ensures)) ∙ not-false _ (c .before .before .before .before .if1 .left))
     (ap within (sym (c .before .before .before .add .ensures)) ∙ sym (c .before .before .is-within3 .ensures) ∙ not-false _ (c .before .if2 .left))

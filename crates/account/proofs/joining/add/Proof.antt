@@ -1,6 +1,6 @@
 -- `account::joining::add` meets its contract: figures within their ceilings add without wrapping. Assumes nothing.
 use native.Mathlib.Omega.{arith}
-use Rattle.account.specs.Joining.{plus}
+use Rattle.account.specs.Joining.{joining}
 use Rattle.account.proofs.Ceils.{figure-at}
 use borrow.Author.Needs.{needs}
 use Rattle.account.proofs.joining.add.Statement.{statement}
@@ -61,7 +61,7 @@ lesser-requires : tie.Need-lesser-requires
 lesser-requires c κs = search needs
 
 returns : tie.Need-returns
-unfolding plus
+unfolding joining
 returns c =
     simp (
       c .before .before .before .before .before .before .before .before .before .before .before .before .before .before .before .before .before .before .before .before .before .before .before .before .before .before .before .fill-first .ensures,

@@ -3,7 +3,7 @@ use Prim.Native.Nat.{_-_}
 use native.Mathlib.Omega.{arith}
 use mathlib.Core.Path.{_∙_}
 use denote.Ref.{now}
-use Rattle.record.specs.Records.{count}
+use Rattle.record.specs.Records.{recordCount}
 use Rattle.record.proofs.Records.{part-record}
 use Rattle.account.proofs.Speeds.{record-front, record-back}
 use borrow.Author.Needs.{needs}
@@ -48,7 +48,7 @@ part-result-end-2 c = search needs
 returns-2 : tie.Need-returns-2
 returns-2 c =
     let a = c .before .before .args in
-    part-record (now (a .back)) (a .k - count (now (a .front))) ∙ record-back (now (a .front)) (now (a .back)) (a .k) (c .before .if1 .left) (omega arith)
+    part-record (now (a .back)) (a .k - recordCount (now (a .front))) ∙ record-back (now (a .front)) (now (a .back)) (a .k) (c .before .if1 .left) (omega arith)
 
 pub record-at-spec : {M : Type 1} → statement M
 record-at-spec =

@@ -1,6 +1,6 @@
 -- `record::number::number` meets its contract: `x` is the number of the bytes from `k` on. Assumes nothing.
 use Prim.Native.Nat.{ℕ, _≤_, _<_, _-_, _+_, _*_, _^_, min}
-use mathlib.Core.Path.{_≡_, ap, _∙_}
+use mathlib.Core.Path.{_≡_}
 use mathlib.Core.List.{List}
 use native.Mathlib.Omega.{arith}
 use borrow.Author.Needs.{needs}
@@ -76,10 +76,11 @@ loop-again : tie.Need-loop-again Inv-loop μ-loop
 loop-again c =
     let a = c .before .before .before .before .before in
     let l = c .before .before .before .loop in
-    let k = c .before .before .loop-test .taken in (
-      omega arith,
-      ap (λ (b : ℕ). l .x * 256 + b) (c .wide .ensures)
-          ∙ turn (now (a .before .args .bytes)) _ (l .k) (l .x) (λ j. omega (arith, a .shared-slice-known .given j)) (c .before .before .before .before .at-most-eight .ensures) k (l .inv .0) (l .inv .1),
+    let k = c .before .before .loop-test .taken in
+    omega (
+      arith,
+      c .wide .ensures,
+      turn (now (a .before .args .bytes)) _ (l .k) (l .x) (λ j. omega (arith, a .shared-slice-known .given j)) (c .before .before .before .before .at-most-eight .ensures) k (l .inv .0) (l .inv .1),
     )
 
 returns : tie.Need-returns Inv-loop μ-loop

@@ -10,7 +10,7 @@ use borrow.Author.Tests.{not-true, not-false}
 use denote.Ref.{now}
 use lib.ListN.{length, take}
 use Rattle.record.specs.Words.{all}
-use Rattle.record.specs.Records.{records, count}
+use Rattle.record.specs.Records.{records, recordCount}
 use Rattle.record.specs.Vehicles.{fields, fieldGood, good}
 use Rattle.record.specs.declared.vehicle.Found.the-variants.{At}
 use Rattle.record.proofs.Records.{part-record, record-length}
@@ -100,9 +100,9 @@ returns-2 c =
     let s = now (c .before .before .before .before .args .file) in
     ⊎-elim
     (λ w.
-    let z : o .i ≡ count s = omega arith in
+    let z : o .i ≡ recordCount s = omega arith in
     let g = o .inv .1 in
-    sym (bad-none (records (count s) s) (rw z at g)))
+    sym (bad-none (records (recordCount s) s) (rw z at g)))
     (λ w. absurd (omega arith))
     (c .before .if1 .came)
 
