@@ -80,11 +80,12 @@ refused-requires-3 c κs = search needs
 
 returns-3 : tie.Need-returns-3 Inv-loop μ-loop
 returns-3 c =
-    let bs = now (c .before .before .before .before .before .before .before .before .before .before .before .args .portion) in
-    let l = c .before .before .before .before .before .before .loop in
+    let s = c .before .before .before .before .before .before in
+    let bs = now (s .before .before .before .before .before .args .portion) in
+    let l = s .loop in
     let bad = part-bad bs (l .i) (sym (c .before .enum-told .given .1) ∙ c .before .before .before .read .ensures) in
     c .refused3 .ensures
-    ∙ answer-3 bs (c .before .before .before .before .before .before .before .before .before .if1 .left) (c .before .before .before .before .before .before .before .before .if2 .left) (l .i) (first-place _ (l .i) bs (c .before .before .before .before .before .loop-test .taken) (l .inv .2) bad)
+    ∙ answer-3 bs (s .before .before .before .if1 .left) (s .before .before .if2 .left) (l .i) (first-place _ (l .i) bs (c .before .before .before .before .before .loop-test .taken) (l .inv .2) bad)
 
 engine-or-bad-requires : tie.Need-engine-or-bad-requires Inv-loop μ-loop
 engine-or-bad-requires c κs = search needs
@@ -94,23 +95,26 @@ refused-requires-4 c κs = search needs
 
 returns-4 : tie.Need-returns-4 Inv-loop μ-loop
 returns-4 c =
-    let bs = now (c .before .before .before .before .before .before .before .before .before .before .before .before .before .before .before .args .portion) in
-    let l = c .before .before .before .before .before .before .before .before .before .before .loop in
+    let s = c .before .before .before .before .before .before .before .before .before .before in
+    let bs = now (s .before .before .before .before .before .args .portion) in
+    let l = s .loop in
     let g = part-good bs (l .i) _ (sym (c .before .before .before .before .before .vehicle .given .1) ∙ c .before .before .before .before .before .before .before .read .ensures) in
     let w : isWorking (vehicle (recordAt bs (l .i))) ≡ true = eq-eqb _ 2 (sym (ap (λ (v : Vehicle). v .kind) (g .1)) ∙ c .before .before .if3 .taken) in
     c .refused4 .ensures
     ∙ ap refusedBy (c .before .engine-or-bad .ensures)
-    ∙ answer-6 bs (c .before .before .before .before .before .before .before .before .before .before .before .before .before .if1 .left) (c .before .before .before .before .before .before .before .before .before .before .before .before .if2 .left) (working-there bs (l .i) (c .before .before .before .before .before .before .before .before .before .loop-test .taken) w)
+    ∙ answer-6 bs (s .before .before .before .if1 .left) (s .before .before .if2 .left) (working-there bs (l .i) (c .before .before .before .before .before .before .before .before .before .loop-test .taken) w)
 
 account-of-one-requires : tie.Need-account-of-one-requires Inv-loop μ-loop
 account-of-one-requires c κs = search needs
 
 add-requires : tie.Need-add-requires Inv-loop μ-loop
 add-requires c κs =
-    let bs = now (c .before .before .before .before .before .before .before .before .before .before .before .before .before .before .args .portion) in
-    let l = c .before .before .before .before .before .before .before .before .before .loop in
-    let g = read-hauled bs (l .i) _ (sym (c .before .before .before .before .vehicle .given .1) ∙ c .before .before .before .before .before .before .read .ensures) (c .before .if3 .left) in (
-      subst Within (sym (l .inv .1)) (within-before bs (l .i) (l .inv .3) (omega (arith, c .before .before .before .before .before .before .before .before .before .before .before .if2 .left, c .before .before .before .before .before .before .before .before .loop-test .taken))),
+    let s = c .before .before .before .before .before .before .before .before .before in
+    let bs = now (s .before .before .before .before .before .args .portion) in
+    let l = s .loop in
+    let g = read-hauled bs (l .i) _ (sym (c .before .before .before .before .vehicle .given .1) ∙ c .before .before .before .before .before .before .read .ensures) (c .before .if3 .left) in
+    let few : l .i ≤ 200 = omega (arith, s .before .before .if2 .left, c .before .before .before .before .before .before .before .before .loop-test .taken) in (
+      subst Within (sym (l .inv .1)) (within-before bs (l .i) (l .inv .3) few),
       subst Within (sym (c .account-of-one .ensures ∙ ap (λ (v : Vehicle). accountOf (v ∷ [])) (g .1))) (within-one _ (g .2)),
     )
 

@@ -17,7 +17,9 @@ slice-aggregate-result : tie.Need-slice-aggregate-result
 slice-aggregate-result c = search needs
 
 returns : tie.Need-returns
-returns c = speed-bad _ _ (sym (ap₂ _&&_ (c .before .before .before .is-whole-good .ensures) (c .before .before .is-whole-good2 .ensures)) ∙ not-true _ (c .before .if1 .taken))
+returns c =
+    let g = c .before .before in
+    speed-bad _ _ (sym (ap₂ _&&_ (g .before .is-whole-good .ensures) (g .is-whole-good2 .ensures)) ∙ not-true _ (c .before .if1 .taken))
 
 add-n : tie.Need-add-n
 add-n c = search needs
@@ -26,19 +28,25 @@ slice-aggregate-result-2 : tie.Need-slice-aggregate-result-2
 slice-aggregate-result-2 c = search needs
 
 returns-2 : tie.Need-returns-2
-returns-2 c = speed-many _ _ (sym (ap₂ _&&_ (c .before .before .before .before .is-whole-good .ensures) (c .before .before .before .is-whole-good2 .ensures)) ∙ not-false _ (c .before .before .if1 .left)) (c .before .if2 .taken)
+returns-2 c =
+    let g = c .before .before in
+    speed-many _ _ (sym (ap₂ _&&_ (g .before .before .is-whole-good .ensures) (g .before .is-whole-good2 .ensures)) ∙ not-false _ (g .if1 .left)) (c .before .if2 .taken)
 
 slice-aggregate-result-3 : tie.Need-slice-aggregate-result-3
 slice-aggregate-result-3 c = search needs
 
 returns-3 : tie.Need-returns-3
-returns-3 c = speed-empty _ _ (sym (ap₂ _&&_ (c .before .before .before .before .before .is-whole-good .ensures) (c .before .before .before .before .is-whole-good2 .ensures)) ∙ not-false _ (c .before .before .before .if1 .left)) (c .before .if3 .taken)
+returns-3 c =
+    let g = c .before .before .before in
+    speed-empty _ _ (sym (ap₂ _&&_ (g .before .before .is-whole-good .ensures) (g .before .is-whole-good2 .ensures)) ∙ not-false _ (g .if1 .left)) (c .before .if3 .taken)
 
 slowest-requires : tie.Need-slowest-requires
 slowest-requires c κs = search needs
 
 returns-4 : tie.Need-returns-4
-returns-4 c = c .slowest .ensures ∙ speed-found _ _ (sym (ap₂ _&&_ (c .before .before .before .before .before .is-whole-good .ensures) (c .before .before .before .before .is-whole-good2 .ensures)) ∙ not-false _ (c .before .before .before .if1 .left)) (c .before .before .if2 .left)
+returns-4 c =
+    let g = c .before .before .before in
+    c .slowest .ensures ∙ speed-found _ _ (sym (ap₂ _&&_ (g .before .before .is-whole-good .ensures) (g .before .is-whole-good2 .ensures)) ∙ not-false _ (g .if1 .left)) (c .before .before .if2 .left)
 
 pub holds-the-speed-spec : {M : Type 1} → statement M
 holds-the-speed-spec =

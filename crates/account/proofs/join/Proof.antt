@@ -37,21 +37,23 @@ refused-requires-2 c κs = search needs
 
 returns-2 : tie.Need-returns-2
 returns-2 c =
+    let s = c .before .before .before in
     c .refused2 .ensures
     ∙ joined-many _ _
-    (sym (ap₂ _&&_ (c .before .before .before .before .before .before .is-within .ensures) (c .before .before .before .before .before .is-within2 .ensures)) ∙ not-false _ (c .before .before .before .before .if1 .left))
-    (ap within (sym (c .before .before .before .add .ensures)) ∙ sym (c .before .before .is-within3 .ensures) ∙ not-true _ (c .before .if2 .taken))
+    (sym (ap₂ _&&_ (s .before .before .before .is-within .ensures) (s .before .before .is-within2 .ensures)) ∙ not-false _ (s .before .if1 .left))
+    (ap within (sym (s .add .ensures)) ∙ sym (c .before .before .is-within3 .ensures) ∙ not-true _ (c .before .if2 .taken))
 
 done-requires : tie.Need-done-requires
 done-requires c κs = search needs
 
 returns-3 : tie.Need-returns-3
 returns-3 c =
+    let s = c .before .before .before in
     c .done .ensures
-    ∙ ap doneWith (c .before .before .before .add .ensures)
+    ∙ ap doneWith (s .add .ensures)
     ∙ joined-done _ _
-    (sym (ap₂ _&&_ (c .before .before .before .before .before .before .is-within .ensures) (c .before .before .before .before .before .is-within2 .ensures)) ∙ not-false _ (c .before .before .before .before .if1 .left))
-    (ap within (sym (c .before .before .before .add .ensures)) ∙ sym (c .before .before .is-within3 .ensures) ∙ not-false _ (c .before .if2 .left))
+    (sym (ap₂ _&&_ (s .before .before .before .is-within .ensures) (s .before .before .is-within2 .ensures)) ∙ not-false _ (s .before .if1 .left))
+    (ap within (sym (s .add .ensures)) ∙ sym (c .before .before .is-within3 .ensures) ∙ not-false _ (c .before .if2 .left))
 
 pub join-spec : {M : Type 1} → statement M
 join-spec =

@@ -34,25 +34,37 @@ sum-requires-8 : tie.Need-sum-requires-8
 sum-requires-8 c κs = search needs
 
 sum-requires-9 : tie.Need-sum-requires-9
-sum-requires-9 c κs = omega (arith, figure-at (c .before .before .before .before .before .before .before .before .before .before .before .args .left) (c .before .before .before .before .before .before .before .before .before .before .before .pre .0) 8, figure-at (c .before .before .before .before .before .before .before .before .before .before .before .args .right) (c .before .before .before .before .before .before .before .before .before .before .before .pre .1) 8)
+sum-requires-9 c κs =
+    let s = c .before .before .before .before .before .before .before .before .before .before .before in
+    omega (arith, figure-at (s .args .left) (s .pre .0) 8, figure-at (s .args .right) (s .pre .1) 8)
 
 sum-requires-10 : tie.Need-sum-requires-10
-sum-requires-10 c κs = omega (arith, figure-at (c .before .before .before .before .before .before .before .before .before .before .before .before .args .left) (c .before .before .before .before .before .before .before .before .before .before .before .before .pre .0) 9, figure-at (c .before .before .before .before .before .before .before .before .before .before .before .before .args .right) (c .before .before .before .before .before .before .before .before .before .before .before .before .pre .1) 9)
+sum-requires-10 c κs =
+    let s = c .before .before .before .before .before .before .before .before .before .before .before .before in
+    omega (arith, figure-at (s .args .left) (s .pre .0) 9, figure-at (s .args .right) (s .pre .1) 9)
 
 sum-requires-11 : tie.Need-sum-requires-11
-sum-requires-11 c κs = omega (arith, figure-at (c .before .before .before .before .before .before .before .before .before .before .before .before .before .args .left) (c .before .before .before .before .before .before .before .before .before .before .before .before .before .pre .0) 10, figure-at (c .before .before .before .before .before .before .before .before .before .before .before .before .before .args .right) (c .before .before .before .before .before .before .before .before .before .before .before .before .before .pre .1) 10)
+sum-requires-11 c κs =
+    let s = c .before .before .before .before .before .before .before .before .before .before .before .before .before in
+    omega (arith, figure-at (s .args .left) (s .pre .0) 10, figure-at (s .args .right) (s .pre .1) 10)
 
 go-on-requires : tie.Need-go-on-requires
-go-on-requires c κs = omega (arith, figure-at (c .before .before .before .before .before .before .before .before .before .before .before .before .before .before .args .left) (c .before .before .before .before .before .before .before .before .before .before .before .before .before .before .pre .0) 11, figure-at (c .before .before .before .before .before .before .before .before .before .before .before .before .before .before .args .right) (c .before .before .before .before .before .before .before .before .before .before .before .before .before .before .pre .1) 11)
+go-on-requires c κs =
+    let s = c .before .before .before .before .before .before .before .before .before .before .before .before .before .before in
+    omega (arith, figure-at (s .args .left) (s .pre .0) 11, figure-at (s .args .right) (s .pre .1) 11)
 
 go-on-requires-2 : tie.Need-go-on-requires-2
-go-on-requires-2 c κs = omega (arith, figure-at (c .before .before .before .before .before .before .before .before .before .before .before .before .before .before .before .args .left) (c .before .before .before .before .before .before .before .before .before .before .before .before .before .before .before .pre .0) 12, figure-at (c .before .before .before .before .before .before .before .before .before .before .before .before .before .before .before .args .right) (c .before .before .before .before .before .before .before .before .before .before .before .before .before .before .before .pre .1) 12)
+go-on-requires-2 c κs =
+    let s = c .before .before .before .before .before .before .before .before .before .before .before .before .before .before .before in
+    omega (arith, figure-at (s .args .left) (s .pre .0) 12, figure-at (s .args .right) (s .pre .1) 12)
 
 greater-requires : tie.Need-greater-requires
 greater-requires c κs = search needs
 
 sum-requires-12 : tie.Need-sum-requires-12
-sum-requires-12 c κs = omega (arith, figure-at (c .before .before .before .before .before .before .before .before .before .before .before .before .before .before .before .before .before .args .left) (c .before .before .before .before .before .before .before .before .before .before .before .before .before .before .before .before .before .pre .0) 12, figure-at (c .before .before .before .before .before .before .before .before .before .before .before .before .before .before .before .before .before .args .right) (c .before .before .before .before .before .before .before .before .before .before .before .before .before .before .before .before .before .pre .1) 11)
+sum-requires-12 c κs =
+    let s = c .before .before .before .before .before .before .before .before .before .before .before .before .before .before .before .before .before in
+    omega (arith, figure-at (s .args .left) (s .pre .0) 12, figure-at (s .args .right) (s .pre .1) 11)
 
 greater-requires-2 : tie.Need-greater-requires-2
 greater-requires-2 c κs = search needs
@@ -63,24 +75,26 @@ lesser-requires c κs = search needs
 returns : tie.Need-returns
 unfolding joining
 returns c =
+    let r = c .before .before .before .before .before .before .before .before .before .before .before in
+    let s = r .before .before .before .before .before in
     simp (
-      c .before .before .before .before .before .before .before .before .before .before .before .before .before .before .before .before .before .before .before .before .before .before .before .before .before .before .before .fill-first .ensures,
-      c .before .before .before .before .before .before .before .before .before .before .before .before .before .before .before .before .before .before .before .before .before .before .before .before .before .before .sum .ensures,
-      c .before .before .before .before .before .before .before .before .before .before .before .before .before .before .before .before .before .before .before .before .before .before .before .before .before .sum2 .ensures,
-      c .before .before .before .before .before .before .before .before .before .before .before .before .before .before .before .before .before .before .before .before .before .before .before .before .sum3 .ensures,
-      c .before .before .before .before .before .before .before .before .before .before .before .before .before .before .before .before .before .before .before .before .before .before .before .sum4 .ensures,
-      c .before .before .before .before .before .before .before .before .before .before .before .before .before .before .before .before .before .before .before .before .before .before .sum5 .ensures,
-      c .before .before .before .before .before .before .before .before .before .before .before .before .before .before .before .before .before .before .before .before .before .sum6 .ensures,
-      c .before .before .before .before .before .before .before .before .before .before .before .before .before .before .before .before .before .before .before .before .sum7 .ensures,
-      c .before .before .before .before .before .before .before .before .before .before .before .before .before .before .before .before .before .before .before .sum8 .ensures,
-      c .before .before .before .before .before .before .before .before .before .before .before .before .before .before .before .before .before .before .sum9 .ensures,
-      c .before .before .before .before .before .before .before .before .before .before .before .before .before .before .before .before .before .sum10 .ensures,
-      c .before .before .before .before .before .before .before .before .before .before .before .before .before .before .before .before .sum11 .ensures,
-      c .before .before .before .before .before .before .before .before .before .before .before .before .before .before .before .go-on .ensures,
-      c .before .before .before .before .before .before .before .before .before .before .before .before .before .before .go-on2 .ensures,
-      c .before .before .before .before .before .before .before .before .before .before .before .before .before .greater .ensures,
-      c .before .before .before .before .before .before .before .before .before .before .before .before .sum12 .ensures,
-      c .before .before .before .before .before .before .before .before .before .before .before .greater2 .ensures,
+      s .before .before .before .before .before .before .before .before .before .before .before .fill-first .ensures,
+      s .before .before .before .before .before .before .before .before .before .before .sum .ensures,
+      s .before .before .before .before .before .before .before .before .before .sum2 .ensures,
+      s .before .before .before .before .before .before .before .before .sum3 .ensures,
+      s .before .before .before .before .before .before .before .sum4 .ensures,
+      s .before .before .before .before .before .before .sum5 .ensures,
+      s .before .before .before .before .before .sum6 .ensures,
+      s .before .before .before .before .sum7 .ensures,
+      s .before .before .before .sum8 .ensures,
+      s .before .before .sum9 .ensures,
+      s .before .sum10 .ensures,
+      s .sum11 .ensures,
+      r .before .before .before .before .go-on .ensures,
+      r .before .before .before .go-on2 .ensures,
+      r .before .before .greater .ensures,
+      r .before .sum12 .ensures,
+      r .greater2 .ensures,
       c .lesser .ensures,
     )
 
