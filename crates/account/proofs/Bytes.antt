@@ -39,7 +39,7 @@ not-refused : (t : Bool) (refusal next : Answer) → (refusal ≡ Done → ⊥) 
 not-refused true refusal next h e = absurd (h e)
 not-refused false refusal next h e = (refl, e)
 
-hauled-each : (rs : List (List ℕ)) → all good rs ≡ true → some isWorking (map vehicle rs) ≡ false → Every GoodHauled (map vehicle rs)
+pub hauled-each : (rs : List (List ℕ)) → all good rs ≡ true → some isWorking (map vehicle rs) ≡ false → Every GoodHauled (map vehicle rs)
 unfolding all
 hauled-each [] g w = tt
 hauled-each (r ∷ rs) g w =

@@ -1,8 +1,8 @@
 -- The ceilings: the test and the statement; and that at most 200 good hauled records are within them. Assumes nothing.
 use Prim.Native.Nat.{ℕ, zero, suc, _≤_, _<_}
 use native.Mathlib.Omega.{arith}
-use mathlib.Core.Path.{_≡_, refl, sym, ap, ap₂, _∙_}
-use mathlib.Core.Bool.{Bool, true, _&&_, cond, and-assoc, and-true}
+use mathlib.Core.Path.{_≡_, refl, ap, ap₂, _∙_}
+use mathlib.Core.Bool.{Bool, true, _&&_, cond}
 use mathlib.Core.List.{List, [], _∷_, _++_, map, reverse}
 use borrow.Author.Tests.{le-leb, leb-true}
 use lib.Dec.{leb}
@@ -10,7 +10,7 @@ use lib.ListN.{take, replicate, getD, length-append, length-reverse}
 use Rattle.record.specs.Words.{all, Every}
 use Rattle.record.specs.Vehicles.{value, nth, vehicle, isHauledEngine, isIsolated, isM, isV, hasDLoad}
 use Rattle.record.specs.declared.vehicle.Vehicle.{Vehicle}
-use Rattle.record.proofs.Vehicles.{both, at-most}
+use Rattle.record.proofs.Vehicles.{both, chain, chain-all, at-most}
 use Rattle.account.specs.Figures.{firsts}
 use Rattle.account.specs.Accounts.{accountOf}
 use Rattle.account.specs.Ceilings.{Figure, _upTo_, figures, within, Within}
@@ -54,19 +54,9 @@ every-at (f ∷ fs) e (suc k) = every-at fs (e .1) k
 pub figure-at : (a : Account) → Within a → (k : ℕ) → Fits (getD (figures a) k (0 upTo 0))
 figure-at a w k = every-at (figures a) w k
 
--- the test as code makes it, one comparison after the other
-abbrev pub chain : Bool → List Figure → Bool
-chain b [] = b
-chain b (f ∷ fs) = chain (b && fits f) fs
-
-chain-all : (b : Bool) (fs : List Figure) → chain b fs ≡ (b && all fits fs)
-unfolding all
-chain-all b [] = sym (and-true b)
-chain-all b (f ∷ fs) = chain-all (b && fits f) fs ∙ and-assoc b (fits f) (all fits fs)
-
-pub chain-within : (a : Account) → chain true (figures a) ≡ within a
+pub chain-within : (a : Account) → chain fits true (figures a) ≡ within a
 unfolding within
-chain-within a = chain-all true (figures a)
+chain-within a = chain-all fits true (figures a)
 
 -- ---- at most 200 good hauled records
 -- a field of a good record, by the table's high end

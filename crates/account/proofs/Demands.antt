@@ -5,22 +5,23 @@ use mathlib.Core.Path.{_≡_, refl, ap, _∙_}
 use mathlib.Core.Bool.{true, false, _&&_}
 use mathlib.Core.List.{List, [], _∷_, _++_, map, reverse, append-nil}
 use lib.ListN.{length}
-use Rattle.record.specs.Words.{_is_, all, leading, Every}
+use Rattle.record.specs.Words.{_is_, all, leading, Every, Case}
 use Rattle.record.specs.Records.{recordCount, records, recordsOf}
 use Rattle.record.specs.Vehicles.{good, isIsolated}
 use Rattle.record.specs.declared.vehicle.Vehicle.{Vehicle}
+use Rattle.record.proofs.Cases.{nth, first-applies, none-applies}
 use Rattle.account.specs.Accounts.{accountOf, empty, sums}
 use Rattle.account.specs.Ceilings.{Within}
 use Rattle.account.specs.Joining.{joining}
-use Rattle.account.specs.Answers.{numberOf, placeOf, Refusal, firstThatApplies, doneWith}
+use Rattle.account.specs.Answers.{numberOf, placeOf, firstThatApplies, doneWith}
 use Rattle.account.specs.Portions.{portionRefusals, accounted, joinRefusals, joined}
 use Rattle.account.specs.Groupings.{Hauled, Portion, Grouping, uncut, joinedVehicles, joinedBytes, BetweenRecords, NoneRefused}
 use Rattle.account.specs.Readings.{firstIsolated, firstIsolatedBy, lastIsolated, lastIsolatedBy, firstFiveV, firstFiveVBy, afterFifthM, afterFifthMBy}
 use Rattle.account.specs.Speed.{wholeGood, slowestOf, holdsTheSpeed, Holds}
 use Rattle.account.specs.declared.Account.{Account}
 use Rattle.account.specs.declared.Accounted.{Accounted}
+use Rattle.account.specs.declared.Answer.{Answer}
 use Rattle.account.specs.declared.Answer.the-variants.{Done}
-use Rattle.account.proofs.Answered.{nth, first-applies, none-applies}
 use Rattle.account.proofs.Ceils.{portion-ceilings}
 use Rattle.account.proofs.Joins.{account-append, grouped, exchanged, joined-accounts}
 use Rattle.account.proofs.Rules.{first-leading, some-firsts, some-after}
@@ -30,29 +31,29 @@ use Rattle.account.proofs.Speeds.{holds-is, two-hold}
 
 -- ---- answers
 -- the numbers and the places of the refusals, in document 01's order
-pub portion-numbers : (bs : List ℕ) → map (λ (r : Refusal). numberOf (r .answer)) (portionRefusals bs) ≡ 1 ∷ 2 ∷ 3 ∷ 6 ∷ []
+pub portion-numbers : (bs : List ℕ) → map (λ (r : Case Answer). numberOf (r .gives)) (portionRefusals bs) ≡ 1 ∷ 2 ∷ 3 ∷ 6 ∷ []
 unfolding portionRefusals
 portion-numbers bs = refl
 
-pub portion-places : (bs : List ℕ) → map (λ (r : Refusal). placeOf (r .answer)) (portionRefusals bs) ≡ 0 ∷ 0 ∷ leading good (recordsOf bs) ∷ 0 ∷ []
+pub portion-places : (bs : List ℕ) → map (λ (r : Case Answer). placeOf (r .gives)) (portionRefusals bs) ≡ 0 ∷ 0 ∷ leading good (recordsOf bs) ∷ 0 ∷ []
 unfolding portionRefusals
 portion-places bs = refl
 
-pub join-numbers : (left right : Account) → map (λ (r : Refusal). numberOf (r .answer)) (joinRefusals left right) ≡ 7 ∷ 2 ∷ []
+pub join-numbers : (left right : Account) → map (λ (r : Case Answer). numberOf (r .gives)) (joinRefusals left right) ≡ 7 ∷ 2 ∷ []
 unfolding joinRefusals
 join-numbers left right = refl
 
-pub join-places : (left right : Account) → map (λ (r : Refusal). placeOf (r .answer)) (joinRefusals left right) ≡ 0 ∷ 0 ∷ []
+pub join-places : (left right : Account) → map (λ (r : Case Answer). placeOf (r .gives)) (joinRefusals left right) ≡ 0 ∷ 0 ∷ []
 unfolding joinRefusals
 join-places left right = refl
 
 -- each is given when it applies and no earlier one does, and number 0 when none applies
-pub answered-in-order : (rs : List Refusal) (i : ℕ) → i < length rs → nth rs i .applies ≡ true → ((j : ℕ) → j < i → nth rs j .applies ≡ false)
-    → firstThatApplies rs ≡ nth rs i .answer
-answered-in-order = first-applies
+pub answered-in-order : (rs : List (Case Answer)) (i : ℕ) → i < length rs → nth Done rs i .applies ≡ true → ((j : ℕ) → j < i → nth Done rs j .applies ≡ false)
+    → firstThatApplies rs ≡ nth Done rs i .gives
+answered-in-order = first-applies Done
 
-pub done-when-none-applies : (rs : List Refusal) → Every (λ r. r .applies ≡ false) rs → firstThatApplies rs ≡ Done
-done-when-none-applies = none-applies
+pub done-when-none-applies : (rs : List (Case Answer)) → Every (λ r. r .applies ≡ false) rs → firstThatApplies rs ≡ Done
+done-when-none-applies = none-applies Done
 
 -- ---- cutting and joining
 -- the account of a list that is cut in two is its parts' accounts, joined

@@ -1,4 +1,3 @@
-pub mod Answered
 pub mod Lists
 pub mod Ceils
 pub mod Joins

@@ -11,6 +11,9 @@ use Rattle.account.proofs.account_of.Reads as account-of-reads
 use Rattle.account.proofs.join as join
 use Rattle.account.proofs.join.Kinds as join-kinds
 use Rattle.account.proofs.join.Reads as join-reads
+use Rattle.account.proofs.within_ceilings as within-ceilings
+use Rattle.account.proofs.within_ceilings.Kinds as within-ceilings-kinds
+use Rattle.account.proofs.within_ceilings.Reads as within-ceilings-reads
 use Rattle.account.proofs.holds_the_speed as holds-the-speed
 use Rattle.account.proofs.holds_the_speed.Kinds as holds-the-speed-kinds
 use Rattle.account.proofs.holds_the_speed.Reads as holds-the-speed-reads
@@ -26,3 +29,7 @@ join-unique κs a s s′ p q = p ∙ sym q
 pub holds-the-speed-unique : (κs : Lfts 1) (a : ArgsD holds-the-speed.signature κs) (r r′ : ResD holds-the-speed.signature κs) (s s′ : AtExit (endedOf 1 holds-the-speed-kinds.ps holds-the-speed-kinds.r) κs)
     → holds-the-speed-reads.Post κs a r s → holds-the-speed-reads.Post κs a r′ s′ → now r ≡ now r′
 holds-the-speed-unique κs a r r′ s s′ p q = p ∙ sym q
+
+pub within-ceilings-unique : (κs : Lfts 0) (a : ArgsD within-ceilings.signature κs) {r r′ : ResD within-ceilings.signature κs} (s s′ : AtExit (endedOf 0 within-ceilings-kinds.ps within-ceilings-kinds.r) κs)
+    → within-ceilings-reads.Post κs a r s → within-ceilings-reads.Post κs a r′ s′ → r ≡ r′
+within-ceilings-unique κs a s s′ p q = p ∙ sym q

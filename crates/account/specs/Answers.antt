@@ -1,8 +1,8 @@
 -- Document 01, "Answers that yield no sheet", as far as accounts give them: the number and the place of each answer.
 use Prim.Native.Nat.{ℕ}
 use mathlib.Core.Bool.{Bool, cond}
-use mathlib.Core.List.{List, [], _∷_}
-use Rattle.record.specs.Words.{_is_}
+use mathlib.Core.List.{List}
+use Rattle.record.specs.Words.{_is_, Case, firstOf}
 use Rattle.account.specs.Accounts.{empty}
 use Rattle.account.specs.declared.Account.{Account}
 use Rattle.account.specs.declared.Accounted.{Accounted}
@@ -26,18 +26,13 @@ placeOf (BadField place) = place
 placeOf WorkingEngine = 0
 placeOf AboveCeiling = 0
 
--- a refusal, and whether it applies
-pub record Refusal : Type 0 where
-  pub answer : Answer
-  pub applies : Bool
-
-abbrev pub refusal : Answer → Bool → Refusal
-refusal answer applies = record { answer = answer; applies = applies }
+-- a refusal, and the test for it
+abbrev pub refusal : Answer → Bool → Case Answer
+refusal answer applies = record { gives = answer; applies = applies }
 
 -- the first that applies; number 0 where none does
-abbrev pub firstThatApplies : List Refusal → Answer
-firstThatApplies [] = Done
-firstThatApplies (r ∷ rs) = cond (r .applies) (r .answer) (firstThatApplies rs)
+abbrev pub firstThatApplies : List (Case Answer) → Answer
+firstThatApplies = firstOf Done
 
 -- number 0 is done; a refusal returns the empty account
 abbrev pub answered : Answer → Account → Accounted

@@ -2,21 +2,21 @@
 use Prim.Native.Nat.{ℕ}
 use mathlib.Core.Bool.{not, _&&_, cond}
 use mathlib.Core.List.{List, [], _∷_}
-use Rattle.record.specs.Words.{_above_, all, leading}
+use Rattle.record.specs.Words.{_above_, all, leading, Case}
 use Rattle.record.specs.Records.{recordCount, recordsOf, isWhole}
 use Rattle.record.specs.Vehicles.{good, vehicles, isWorking}
 use Rattle.account.specs.Figures.{some}
 use Rattle.account.specs.Accounts.{accountOf}
 use Rattle.account.specs.Ceilings.{within}
 use Rattle.account.specs.Joining.{joining}
-use Rattle.account.specs.Answers.{Refusal, refusal, firstThatApplies, answered}
+use Rattle.account.specs.Answers.{refusal, firstThatApplies, answered}
 use Rattle.account.specs.declared.Account.{Account}
 use Rattle.account.specs.declared.Accounted.{Accounted}
 use Rattle.account.specs.declared.Answer.{Answer}
 use Rattle.account.specs.declared.Answer.the-variants.{NotWhole, TooMany, BadField, WorkingEngine, AboveCeiling}
 
 -- for an account of a portion; an empty portion is good
-unfoldable pub portionRefusals : List ℕ → List Refusal
+unfoldable pub portionRefusals : List ℕ → List (Case Answer)
 portionRefusals bs =
     -- 1, only for a length that is no multiple of 24
     refusal NotWhole (not (isWhole bs))
@@ -35,7 +35,7 @@ engineOrBad rs = cond (all good rs) WorkingEngine (BadField (leading good rs))
 abbrev pub accounted : List ℕ → Accounted
 accounted bs = answered (firstThatApplies (portionRefusals bs)) (accountOf (vehicles bs))
 
-unfoldable pub joinRefusals : Account → Account → List Refusal
+unfoldable pub joinRefusals : Account → Account → List (Case Answer)
 joinRefusals left right =
     -- 7: an account with a figure above its ceiling
     refusal AboveCeiling (not (within left && within right))

@@ -2,6 +2,7 @@
 ghost use mathlib.Core.Path.{_≡_};
 ghost use Rattle.record.specs.Records.{recordsOf};
 ghost use Rattle.account.specs.Answers.{doneWith, refusedBy};
+ghost use Rattle.account.specs.Ceilings.{within};
 ghost use Rattle.account.specs.Portions.{accounted, engineOrBad, joined};
 ghost use Rattle.account.specs.Speed.{holdsTheSpeed};
 use record::vehicle::Found;
@@ -125,6 +126,13 @@ pub fn account_of(portion: &[u8]) -> Accounted
         i += 1;
     }
     done(account)
+}
+
+// Whether an account has no figure above its ceiling; 7 is for the rest.
+pub fn within_ceilings(account: Account) -> bool
+    ensures { λ r. ⌜ r ≡ within account ⌝ }
+{
+    figure::is_within(account)
 }
 
 // The account of two portions, from their accounts.

@@ -1,3 +1,4 @@
+pub mod Cases
 pub mod Numbers
 pub mod Records
 pub mod Vehicles

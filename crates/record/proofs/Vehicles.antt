@@ -49,6 +49,23 @@ module _ {A : Type 0} (p : A → Bool) where
   all-at (y ∷ ys) zero d h e = both (p y) (all p ys) e .0
   all-at (y ∷ ys) (suc i) d h e = all-at ys i d (le-of-suc-le-suc h) (both (p y) (all p ys) e .1)
 
+  pub leading-all : (xs : List A) → all p xs ≡ true → leading p xs ≡ length xs
+  unfolding all
+  leading-all [] h = refl
+  leading-all (x ∷ xs) h =
+      let t = both (p x) (all p xs) h in
+      rw (t .0) (ap suc (leading-all xs (t .1)))
+
+  -- the test as code makes it, one comparison after the other
+  abbrev pub chain : Bool → List A → Bool
+  chain b [] = b
+  chain b (x ∷ xs) = chain (b && p x) xs
+
+  pub chain-all : (b : Bool) (xs : List A) → chain b xs ≡ (b && all p xs)
+  unfolding all
+  chain-all b [] = sym (and-true b)
+  chain-all b (x ∷ xs) = chain-all (b && p x) xs ∙ and-assoc b (p x) (all p xs)
+
 -- ---- the table of fields
 -- what one computed test says of every row: a field lies in its record, and its bytes are at most eight
 abbrev inside : Field → Bool
@@ -142,14 +159,14 @@ bad-place rs place e = go (all good rs) e
 
 -- a bad record behind good ones
 module _ {A : Type 0} (p : A → Bool) (x : A) (bad : p x ≡ false) (ys : List A) where
-  leading-to : (xs : List A) → all p xs ≡ true → leading p (xs ++ x ∷ ys) ≡ length xs
+  pub leading-to : (xs : List A) → all p xs ≡ true → leading p (xs ++ x ∷ ys) ≡ length xs
   unfolding all
   leading-to [] h = rw bad
   leading-to (w ∷ xs) h =
       let t = both (p w) (all p xs) h in
       rw (t .0) (ap suc (leading-to xs (t .1)))
 
-  all-but : (xs : List A) → all p (xs ++ x ∷ ys) ≡ false
+  pub all-but : (xs : List A) → all p (xs ++ x ∷ ys) ≡ false
   unfolding all
   all-but xs = all-append p xs (x ∷ ys) ∙ ap (λ (b : Bool). all p xs && (b && all p ys)) bad ∙ and-false (all p xs)
 

@@ -28,3 +28,13 @@ leading p (x ∷ xs) = cond (p x) (suc (leading p xs)) 0
 abbrev pub Every : {A : Type 0} → (A → Type 0) → List A → Type 0
 Every P [] = Unit
 Every P (x ∷ xs) = P x × Every P xs
+
+-- an answer or a number, and the test for it
+pub record Case (A : Type 0) : Type 0 where
+  pub gives : A
+  pub applies : Bool
+
+-- what the first case that applies gives, and other where none does
+abbrev pub firstOf : {A : Type 0} → A → List (Case A) → A
+firstOf other [] = other
+firstOf other (c ∷ cs) = cond (c .applies) (c .gives) (firstOf other cs)
