@@ -29,10 +29,10 @@ use Rattle.account.proofs.Joins.{joined-accounts}
 use Rattle.account.proofs.Portions.{good-hauled, answer-0, none-working}
 
 -- ---- a portion that is done is whole, few, good and hauled
-record Sound (bs : List ℕ) : Type 0 where
-  whole : length bs % 24 ≡ 0
-  fine : all good (recordsOf bs) ≡ true
-  hauled : Portion (vehicles bs)
+pub record Sound (bs : List ℕ) : Type 0 where
+  pub whole : length bs % 24 ≡ 0
+  pub fine : all good (recordsOf bs) ≡ true
+  pub hauled : Portion (vehicles bs)
 
 -- a test that refuses did not hold, and the next answer is the answer
 not-refused : (t : Bool) (refusal next : Answer) → (refusal ≡ Done → ⊥) → cond t refusal next ≡ Done → (t ≡ false) × (next ≡ Done)
@@ -51,7 +51,7 @@ hauled-each (r ∷ rs) g w =
     neither true q e = absurd (false≢true (sym e))
     neither false q e = (refl, e)
 
-done-sound : (bs : List ℕ) → firstThatApplies (portionRefusals bs) ≡ Done → Sound bs
+pub done-sound : (bs : List ℕ) → firstThatApplies (portionRefusals bs) ≡ Done → Sound bs
 unfolding portionRefusals
 done-sound bs e =
     let n1 = not-refused (not (isWhole bs)) NotWhole _ (λ q. let z : _≡_ {A = ℕ} 0 1 = cc in omega arith) e in
@@ -69,7 +69,7 @@ done-sound bs e =
           };
     }
 
-sound-done : (bs : List ℕ) → Sound bs → accounted bs ≡ doneWith (accountOf (vehicles bs))
+pub sound-done : (bs : List ℕ) → Sound bs → accounted bs ≡ doneWith (accountOf (vehicles bs))
 sound-done bs s =
     let few : recordCount bs ≤ 200 = omega (arith, s .hauled .few, length-map (recordsOf bs) vehicle, length-records (recordCount bs) bs) in
     sym (answer-0 bs (s .whole) few (s .fine) (none-working (vehicles bs) (s .hauled .each)))

@@ -67,10 +67,10 @@ module _ (working hauled : List Vehicle) (w : Every Working working) (first : fi
   lead : leading isWorking (working ++ hauled) ≡ length working
   lead = leading-working working hauled w first
 
-  engines-are : workingOf (working ++ hauled) ≡ working
+  pub engines-are : workingOf (working ++ hauled) ≡ working
   engines-are = ap (λ (n : ℕ). take n (working ++ hauled)) lead ∙ take-at working hauled (length working) refl
 
-  rest-is : hauledOf (working ++ hauled) ≡ hauled
+  pub rest-is : hauledOf (working ++ hauled) ≡ hauled
   rest-is = ap (λ (n : ℕ). drop n (working ++ hauled)) lead ∙ drop-at working hauled (length working) refl
 
   no-wagon : some isWagon working ≡ false

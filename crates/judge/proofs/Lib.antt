@@ -5,3 +5,10 @@ pub mod Rules
 pub mod Answers
 pub mod Sheets
 pub mod Trains
+pub mod Grants
+pub mod Unique
+pub mod Cases
+pub mod Joint
+pub mod Offers
+pub mod Bounds
+pub mod Demands

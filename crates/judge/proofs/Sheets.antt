@@ -144,12 +144,12 @@ module _ (bs : List ℕ) (hauled : Account) (order : List ℕ) (room : ℕ) wher
     pub engines-ready : GoodEngines bs
     engines-ready =
         let t = none-of (engineRefusals bs hauled) (refl, (refl, (refl, (refl, tt)))) a in
-        let u = none-of (engineShape (vehicles bs) hauled) (refl, (refl, (refl, (refl, tt)))) s in
+        let u = none-of (engineShape (vehicles bs) hauled) (refl, (refl, (refl, tt))) s in
         let w = whole-some bs (t .0) in
         record {
           whole = eq-eqb (length bs % 24) 0 (w .0);
           some = w .1;
-          few = omega (arith, w .0, length-vehicles bs, ltb-false 2 (length (vehicles bs)) (u .1 .1 .0));
+          few = omega (arith, w .0, length-vehicles bs, ltb-false 2 (length (vehicles bs)) (u .1 .0));
           each = not-false (all good (recordsOf bs)) (t .1 .1 .1 .0);
         }
 

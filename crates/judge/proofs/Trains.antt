@@ -47,7 +47,7 @@ module _ {A : Type 0} (p : A → Bool) where
       go true e rest = (e, rest)
       go false e rest = tt
 
-  none-first : (xs : List A) → some p xs ≡ false → firstIs p xs ≡ false
+  pub none-first : (xs : List A) → some p xs ≡ false → firstIs p xs ≡ false
   none-first [] e = refl
   none-first (x ∷ xs) e = go (p x) e
     where
@@ -59,7 +59,7 @@ zero-first : (n : ℕ) → eqb n 0 ≡ not (ltb 0 n)
 zero-first zero = refl
 zero-first (suc n) = eqb·suc-zero n ∙ ap not (sym (lt-ltb 0 (suc n) (omega arith)))
 
-working-each : (xs : List Vehicle) → Every (λ v. isWorking v ≡ true) xs → Every Working xs
+pub working-each : (xs : List Vehicle) → Every (λ v. isWorking v ≡ true) xs → Every Working xs
 working-each [] e = tt
 working-each (x ∷ xs) e = (eqb-true (x .kind) 2 (e .0), working-each xs (e .1))
 
@@ -175,7 +175,7 @@ module _ (bs : List ℕ) (n : ℕ) (count : n ≡ leading isWorking (vehicles bs
 
 -- ---- the three groups of refusals, as the code comes to them: x is the early answer, y the late one
 module _ (bs order sheet : List ℕ) where
-  train-groups :
+  pub train-groups :
       trainAnswer bs order (length sheet)
       ≡ orElse (firstOf Done (recordRefusals bs)) (orElse (firstOf Done (orderRefusals order (length sheet))) (firstOf Done (trainShape (vehicles bs))))
   unfolding trainRefusals

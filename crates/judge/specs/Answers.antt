@@ -1,7 +1,7 @@
 -- Document 01, "Answers that yield no sheet": the number and the place of each answer, and the refusals in their two orders.
 use Prim.Native.Nat.{ℕ, _+_, _≤_}
 use mathlib.Core.Path.{_≡_}
-use mathlib.Core.Bool.{Bool, true, false, not, _||_, cond}
+use mathlib.Core.Bool.{Bool, true, not, _||_, cond}
 use mathlib.Core.List.{List, [], _∷_, _++_}
 use lib.ListN.{length, drop}
 use Rattle.record.specs.Words.{_is_, _above_, all, leading, Case, firstOf}
@@ -71,7 +71,7 @@ recordRefusals bs = notWhole bs ∷ refusal TooMany (recordCount bs above 200) �
 
 abbrev pub shape : Bool → Bool → ℕ → ℕ → List (Case Answer)
 shape notWorking behind engines hauled =
-    -- 11: the first record is not a working engine; with engines lent apart, any of them is not
+    -- 11: the first record is not a working engine
     refusal NotWorking notWorking
     -- 12: a working engine stands behind another kind
     ∷ refusal WorkingBehind behind
@@ -98,9 +98,13 @@ engineRefusals bs hauled =
     ∷ badField bs
     ∷ []
 
--- 12 can't apply to engines lent apart
 abbrev pub engineShape : List Vehicle → Account → List (Case Answer)
-engineShape engines hauled = shape (not (all isWorking engines)) false (length engines) (hauled .count)
+engineShape engines hauled =
+    -- 11: with engines lent apart, any of them is not a working engine
+    refusal NotWorking (not (all isWorking engines))
+    ∷ refusal ManyEngines (length engines above 2)
+    ∷ refusal NothingHauled (hauled .count is 0)
+    ∷ []
 
 unfoldable pub accountRefusals : List ℕ → Account → List ℕ → ℕ → List (Case Answer)
 accountRefusals bs hauled order room = engineRefusals bs hauled ++ (orderRefusals order room ++ engineShape (vehicles bs) hauled)

@@ -7,4 +7,5 @@ pub mod Rules
 pub mod Grants
 pub mod Sheets
 pub mod Answers
+pub mod Cases
 pub mod Marks

@@ -1,0 +1,48 @@
+-- `bench::vehicle_part` meets its contract. Assumes nothing.
+use native.Mathlib.Omega.{arith}
+use denote.Ref.{now}
+use Rattle.bench.proofs.Lines.{vehicles-none, vehicles-behind}
+use borrow.Author.Needs.{needs}
+use Rattle.bench.proofs.vehicle_part.Statement.{statement}
+use Rattle.bench.proofs.vehicle_part.Tie as tie
+
+sub-result : tie.Need-sub-result
+sub-result c = search needs
+
+part-result-start : tie.Need-part-result-start
+part-result-start c = search needs
+
+part-result-end : tie.Need-part-result-end
+part-result-end c = search needs
+
+returns : tie.Need-returns
+returns c = vehicles-none (now (c .before .before .before .args .input)) (omega arith)
+
+lesser-requires : tie.Need-lesser-requires
+lesser-requires c κs = search needs
+
+sub-result-2 : tie.Need-sub-result-2
+sub-result-2 c = search needs
+
+part-result-start-2 : tie.Need-part-result-start-2
+part-result-start-2 c = search needs
+
+part-result-end-2 : tie.Need-part-result-end-2
+part-result-end-2 c = search needs
+
+returns-2 : tie.Need-returns-2
+returns-2 c = vehicles-behind (now (c .before .before .before .before .args .input)) (c .before .lesser .result) (omega arith) (c .before .lesser .ensures)
+
+pub vehicle-part-spec : {M : Type 1} → statement M
+vehicle-part-spec =
+    tie.close
+    (tie.spec
+    sub-result
+    part-result-start
+    part-result-end
+    returns
+    lesser-requires
+    sub-result-2
+    part-result-start-2
+    part-result-end-2
+    returns-2)

@@ -1,0 +1,33 @@
+-- Document 01, "Tried on the bench": the line that SHEET writes of its input.
+use Prim.Native.Nat.{ℕ}
+use mathlib.Core.List.{List, [], _∷_, _++_}
+use lib.ListN.{take, drop}
+use Rattle.record.specs.Words.{_is_}
+use Rattle.record.specs.Vehicles.{vehicles}
+use Rattle.judge.specs.Answers.{numberOf, placeOf, trainAnswer}
+use Rattle.judge.specs.Facts.{factsOf}
+use Rattle.judge.specs.Orders.{orderOf}
+use Rattle.judge.specs.Sheets.{sheetOf}
+use Rattle.judge.specs.declared.Answer.{Answer}
+use Rattle.bench.specs.Texts.{field, sheetText}
+
+-- an order record, then vehicles, up to 4,848 bytes, the rest ignored
+abbrev pub orderPart : List ℕ → List ℕ
+orderPart input = take 24 input
+
+abbrev pub vehiclePart : List ℕ → List ℕ
+vehiclePart input = drop 24 (take 4848 input)
+
+-- the answer for a sheet with room for its 32 bytes; up to 24 bytes hold no vehicle: refusal 1
+unfoldable pub answerOf : List ℕ → Answer
+answerOf input = trainAnswer (vehiclePart input) (orderPart input) 32
+
+unfoldable pub sheetIn : List ℕ → List ℕ
+sheetIn input = sheetOf (factsOf (vehicles (vehiclePart input))) (orderOf (orderPart input))
+
+-- fields parted by one space and closed by a line feed: number, place, the sheet
+unfoldable pub lineBy : ℕ → ℕ → List ℕ → List ℕ
+lineBy number place sheet = field number ++ (field place ++ (sheetText (number is 0) sheet ++ (10 ∷ [])))
+
+unfoldable pub lineOf : List ℕ → List ℕ
+lineOf input = lineBy (numberOf (answerOf input)) (placeOf (answerOf input)) (sheetIn input)

@@ -1,0 +1,31 @@
+-- Numbers in decimal and bytes in lower-case hex, as ASCII.
+use Prim.Native.Nat.{ℕ, zero, suc, _+_, _/_, _%_}
+use mathlib.Core.Bool.{Bool, cond}
+use mathlib.Core.List.{List, [], _∷_, _++_}
+use lib.Dec.{ltb}
+
+-- 0 to 9, then a to f
+unfoldable pub glyphOf : ℕ → ℕ
+glyphOf d = cond (ltb d 10) (48 + d) (87 + d)
+
+-- the digits of a number that has at most so many, the first not 0 save for the number 0
+abbrev pub digits : ℕ → ℕ → List ℕ
+digits zero n = []
+digits (suc most) n = cond (ltb n 10) (glyphOf n ∷ []) (digits most (n / 10) ++ (glyphOf (n % 10) ∷ []))
+
+-- a number of 64 bits has at most 20 digits
+unfoldable pub decimal : ℕ → List ℕ
+decimal n = digits 20 n
+
+-- a number and one space
+abbrev pub field : ℕ → List ℕ
+field n = decimal n ++ (32 ∷ [])
+
+-- each byte in two digits, the greater first
+abbrev pub hex : List ℕ → List ℕ
+hex [] = []
+hex (b ∷ bs) = glyphOf (b / 16) ∷ glyphOf (b % 16) ∷ hex bs
+
+-- the sheet in hex, or "-" if refused
+abbrev pub sheetText : Bool → List ℕ → List ℕ
+sheetText done sheet = cond done (hex sheet) (45 ∷ [])
