@@ -49,7 +49,7 @@ same-length c =
     let f = c .before .before .before .before .before .before .before .before .before .before .put-field in
     let g = c .before .before .before .before .before .before .put-field2 in
     let s = c .before .before .put-sheet in
-    length-set (s .last .1 .1 .0) (s .result) 10 ∙ put-length (g .last .1 .0) (s .last .1 .1 .0) (sheetText (a .number is 0) (now (a .sheet))) (g .result) (s .ensures .1) ∙ put-length (f .last .1 .0) (g .last .1 .0) (field (a .place)) (f .result) (g .ensures .1) ∙ put-length (now (a .line)) (f .last .1 .0) (field (a .number)) 0 (f .ensures .1)
+    length-set (s .last .1 .1 .0) (s .result) _ ∙ put-length (g .last .1 .0) (s .last .1 .1 .0) (sheetText (a .number is 0) (now (a .sheet))) (g .result) (s .ensures .1) ∙ put-length (f .last .1 .0) (g .last .1 .0) (field (a .place)) (f .result) (g .ensures .1) ∙ put-length (now (a .line)) (f .last .1 .0) (field (a .number)) 0 (f .ensures .1)
 
 returns : tie.Need-returns
 returns c =
