@@ -2,14 +2,14 @@
 -- `joined-in-code` also over the two contracts themselves. Assumes nothing.
 use Prim.Native.Nat.{ℕ, _+_, _≤_, _<_}
 use mathlib.Core.Path.{_≡_, refl, ap, _∙_}
+use mathlib.Core.Logic.{_⊎_}
 use mathlib.Core.Bool.{true, false, _&&_}
 use mathlib.Core.List.{List, [], _∷_, _++_, map, reverse, append-nil}
-use lib.ListN.{length}
-use Rattle.record.specs.Words.{_is_, all, leading, Every, Case}
+use Rattle.record.specs.Words.{_is_, all, leading, Every, Case, caseAt, First}
 use Rattle.record.specs.Records.{recordCount, records, recordsOf}
 use Rattle.record.specs.Vehicles.{good, isIsolated}
 use Rattle.record.specs.declared.vehicle.Vehicle.{Vehicle}
-use Rattle.record.proofs.Cases.{nth, first-applies, none-applies}
+use Rattle.record.proofs.Cases.{first-applies, none-applies, first-or-none}
 use Rattle.account.specs.Accounts.{accountOf, empty, sums}
 use Rattle.account.specs.Ceilings.{Within}
 use Rattle.account.specs.Joining.{joining}
@@ -48,9 +48,12 @@ unfolding joinRefusals
 join-places left right = refl
 
 -- each is given when it applies and no earlier one does, and number 0 when none applies
-pub answered-in-order : (rs : List (Case Answer)) (i : ℕ) → i < length rs → nth Done rs i .applies ≡ true → ((j : ℕ) → j < i → nth Done rs j .applies ≡ false)
-    → firstThatApplies rs ≡ nth Done rs i .gives
-answered-in-order = first-applies Done
+pub answered-in-order : (rs : List (Case Answer)) (f : First Done rs) → firstThatApplies rs ≡ caseAt Done rs (f .place) .gives
+answered-in-order rs f = first-applies Done rs (f .place) (f .within) (f .applies) (f .earlier)
+
+-- and there always is one that does so, or none applies
+pub first-or-done : (rs : List (Case Answer)) → First Done rs ⊎ Every (λ r. r .applies ≡ false) rs
+first-or-done = first-or-none Done
 
 pub done-when-none-applies : (rs : List (Case Answer)) → Every (λ r. r .applies ≡ false) rs → firstThatApplies rs ≡ Done
 done-when-none-applies = none-applies Done

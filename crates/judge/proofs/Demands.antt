@@ -1,16 +1,17 @@
 -- The demands, as far as a train and its sheet go: the theorems, over the definitions of specs/. Assumes nothing.
 use Prim.Native.Nat.{ℕ, _≤_, _<_}
 use mathlib.Core.Path.{_≡_, refl, ap, _∙_}
+use mathlib.Core.Logic.{_⊎_}
 use mathlib.Core.Bool.{true, false}
 use mathlib.Core.List.{List, [], _∷_, _++_, map}
 use lib.IntN.{ℤ, pos}
 use lib.ListN.{length, getD, take, drop}
 use lib.Signed.{ltZ}
-use Rattle.record.specs.Words.{all, leading, Every, Case, firstOf}
+use Rattle.record.specs.Words.{all, leading, Every, Case, firstOf, caseAt, First}
 use Rattle.record.specs.Records.{recordsOf}
 use Rattle.record.specs.Vehicles.{good, vehicles, isWorking}
 use Rattle.record.specs.declared.vehicle.Vehicle.{Vehicle}
-use Rattle.record.proofs.Cases.{nth, first-applies, none-applies}
+use Rattle.record.proofs.Cases.{first-applies, none-applies, first-or-none}
 use Rattle.account.specs.Figures.{firstIs}
 use Rattle.account.specs.Accounts.{accountOf}
 use Rattle.account.specs.Portions.{accounted}
@@ -24,10 +25,10 @@ use Rattle.margin.specs.Margin.{tonnesOf, signedOf}
 use Rattle.margin.proofs.Demands.{read-back-margin, below-zero}
 use Rattle.judge.specs.Orders.{orderOf}
 use Rattle.judge.specs.Categories.{rowOf}
-use Rattle.judge.specs.Facts.{factsOf, factsBeside, Bounded}
+use Rattle.judge.specs.Facts.{factsOf, factsBeside, Bounded, Working}
 use Rattle.judge.specs.Brakes.{marginFor, isShort}
 use Rattle.judge.specs.Rules.{firstBroken, commonRules, rules, brokenBy}
-use Rattle.judge.specs.Grants.{categories, speedOf, grantedOf}
+use Rattle.judge.specs.Grants.{categories, speedOf, grantedOf, MayBeGranted, Offered}
 use Rattle.judge.specs.Sheets.{categoryOf, figuresOf, sheetOf}
 use Rattle.judge.specs.Answers.{numberOf, placeOf, isDone, trainRefusals, trainAnswer, trainSheet, accountRefusals, accountAnswer, accountSheet, written, GoodEngines}
 use Rattle.judge.specs.declared.Answer.{Answer}
@@ -36,10 +37,10 @@ use Rattle.judge.specs.declared.category.Category.{Category}
 use Rattle.judge.specs.declared.order.Order.{Order}
 use Rattle.judge.specs.declared.fact.Facts.{Facts}
 use Rattle.judge.proofs.Bounds.{bounded-train, bounded-account}
-use Rattle.judge.proofs.Facts.{Working, facts-same}
+use Rattle.judge.proofs.Facts.{facts-same}
 use Rattle.judge.proofs.Grants.{none-exactly}
 use Rattle.judge.proofs.Joint.{sheets-same}
-use Rattle.judge.proofs.Offers.{May, Offered, may-offered, offered-may, is-granted, reached}
+use Rattle.judge.proofs.Offers.{may-offered, offered-may, is-granted, reached}
 
 -- ---- demand 1: every input is answered
 -- the refusals' numbers in document 01's two orders, and their places
@@ -62,9 +63,12 @@ unfolding accountRefusals
 account-places bs hauled order room = refl
 
 -- each is given exactly when it applies and no earlier one does
-pub answered-in-order : (rs : List (Case Answer)) (i : ℕ) → i < length rs → nth Done rs i .applies ≡ true → ((j : ℕ) → j < i → nth Done rs j .applies ≡ false)
-    → firstOf Done rs ≡ nth Done rs i .gives
-answered-in-order = first-applies Done
+pub answered-in-order : (rs : List (Case Answer)) (f : First Done rs) → firstOf Done rs ≡ caseAt Done rs (f .place) .gives
+answered-in-order rs f = first-applies Done rs (f .place) (f .within) (f .applies) (f .earlier)
+
+-- and there always is one that does so, or none applies
+pub first-or-done : (rs : List (Case Answer)) → First Done rs ⊎ Every (λ r. r .applies ≡ false) rs
+first-or-done = first-or-none Done
 
 pub done-when-none-applies : (rs : List (Case Answer)) → Every (λ r. r .applies ≡ false) rs → firstOf Done rs ≡ Done
 done-when-none-applies = none-applies Done
@@ -91,31 +95,30 @@ module _ (f : Facts) (o : Order) where
   first-common-rule = refl
 
   -- a rule's number is there exactly when it is broken and no earlier one is
-  pub rule-first : (rs : List (Case ℕ)) (i : ℕ) → i < length rs → nth 0 rs i .applies ≡ true → ((j : ℕ) → j < i → nth 0 rs j .applies ≡ false)
-      → firstBroken rs ≡ nth 0 rs i .gives
-  rule-first = first-applies 0
+  pub rule-first : (rs : List (Case ℕ)) (b : First 0 rs) → firstBroken rs ≡ caseAt 0 rs (b .place) .gives
+  rule-first rs b = first-applies 0 rs (b .place) (b .within) (b .applies) (b .earlier)
 
   pub no-rule : (rs : List (Case ℕ)) → Every (λ r. r .applies ≡ false) rs → firstBroken rs ≡ 0
   no-rule = none-applies 0
 
   -- no category is granted exactly when every one from the asked on breaks a rule
   pub none-granted : grantedOf f o .number ≡ 0 → (k : Category) → o .asked ≤ rowOf k .number → brokenBy k f o ≡ 0 → ⊥
-  none-granted e k a w = is-granted f o .none e (rowOf k .number) (speedOf k f o) (may-offered f o k (record { asked = a; whole = w }))
+  none-granted e k a w = is-granted f o .none e (rowOf k .number) (speedOf k f o) (may-offered f o k (record { asked = a; unbroken = w }))
 
   pub all-broken : ((k : Category) → o .asked ≤ rowOf k .number → brokenBy k f o ≡ 0 → ⊥) → grantedOf f o .number ≡ 0
   all-broken h =
       none-exactly _ (grantedOf f o) (is-granted f o)
-      (λ n s w. let x = offered-may f o n s w in h (x .category) (x .may .asked) (x .may .whole))
+      (λ n s w. let x = offered-may f o n s w in h (x .category) (x .may .asked) (x .may .unbroken))
 
   -- the one granted is the asked or a greater one that breaks no rule, at its own speed
   pub granted-stands : 0 < grantedOf f o .number → Offered f o (grantedOf f o .number) (grantedOf f o .speed)
   granted-stands p = offered-may f o (grantedOf f o .number) (grantedOf f o .speed) (is-granted f o .one p)
 
   -- none that may be granted is faster, and none as fast has a lower number
-  pub granted-is-fastest : (k : Category) → May f o k → speedOf k f o ≤ grantedOf f o .speed
+  pub granted-is-fastest : (k : Category) → MayBeGranted f o k → speedOf k f o ≤ grantedOf f o .speed
   granted-is-fastest k m = is-granted f o .fastest (rowOf k .number) (speedOf k f o) (may-offered f o k m)
 
-  pub lowest-at-a-tie : (k : Category) → May f o k → speedOf k f o ≡ grantedOf f o .speed → grantedOf f o .number ≤ rowOf k .number
+  pub lowest-at-a-tie : (k : Category) → MayBeGranted f o k → speedOf k f o ≡ grantedOf f o .speed → grantedOf f o .number ≤ rowOf k .number
   lowest-at-a-tie k m e = is-granted f o .lowest (rowOf k .number) (speedOf k f o) (may-offered f o k m) e
 
   -- bytes 10-12 read back with their sign are the asked category's margin in whole tonnes, rounded down

@@ -20,7 +20,7 @@ use Rattle.account.specs.declared.Account.{Account}
 use Rattle.account.proofs.Ceils.{figure-at}
 use Rattle.judge.specs.Engines.{enginesOf, AtMost}
 use Rattle.judge.specs.declared.engine.Engines.{Engines}
-use Rattle.judge.specs.Facts.{workingOf, hauledOf, factsOf, besideOf, factsBeside, Bounded}
+use Rattle.judge.specs.Facts.{workingOf, hauledOf, factsOf, besideOf, factsBeside, Bounded, Working}
 
 -- ---- a list of five
 five : (l : List ℕ) → length l ≡ 5 → l ≡ getD l 0 0 ∷ getD l 1 0 ∷ getD l 2 0 ∷ getD l 3 0 ∷ getD l 4 0 ∷ []
@@ -47,9 +47,6 @@ module _ (l : List ℕ) (h : length l ≡ 5) where
       go a b c d e = simp (or-assoc, or-false)
 
 -- ---- working engines in front of hauled vehicles
-abbrev pub Working : Vehicle → Type 0
-Working v = v .kind ≡ 2
-
 leading-working : (working hauled : List Vehicle) → Every Working working → firstIs isWorking hauled ≡ false → leading isWorking (working ++ hauled) ≡ length working
 leading-working [] [] w h = refl
 leading-working [] (v ∷ hauled) w h = rw h

@@ -21,13 +21,13 @@ use Rattle.account.proofs.Joins.{portion-within}
 use Rattle.account.proofs.Portions.{none-working}
 use Rattle.account.proofs.Bytes.{Sound, sound-done}
 use Rattle.judge.specs.Orders.{orderOf}
-use Rattle.judge.specs.Facts.{workingOf, hauledOf, factsOf, factsBeside}
+use Rattle.judge.specs.Facts.{workingOf, hauledOf, factsOf, factsBeside, Working}
 use Rattle.judge.specs.Sheets.{sheetOf}
 use Rattle.judge.specs.Answers.{refusal, orderRefusals, trainRefusals, trainAnswer, trainSheet, accountRefusals, accountAnswer, accountSheet, written, GoodEngines}
 use Rattle.judge.specs.declared.Answer.{Answer}
 use Rattle.judge.specs.declared.Answer.the-variants.{Done, TooMany, ManyEngines, NothingHauled}
 use Rattle.judge.specs.declared.fact.Facts.{Facts}
-use Rattle.judge.proofs.Facts.{Working, engines-are, rest-is, facts-same}
+use Rattle.judge.proofs.Facts.{engines-are, rest-is, facts-same}
 use Rattle.judge.proofs.Sheets.{length-vehicles}
 use Rattle.judge.proofs.Trains.{none-first, working-each}
 

@@ -13,7 +13,7 @@ use Rattle.judge.specs.Categories.{rowOf, percentageOf}
 use Rattle.judge.specs.Facts.{Bounded}
 use Rattle.judge.specs.Brakes.{fourfold, begunOf, deductionOf}
 use Rattle.judge.specs.Rules.{brokenBy}
-use Rattle.judge.specs.Grants.{categories, speedOf, offerOf, grantedOf}
+use Rattle.judge.specs.Grants.{categories, speedOf, offerOf, grantedOf, MayBeGranted, Offered}
 use Rattle.judge.specs.declared.category.Category.{Category}
 use Rattle.judge.specs.declared.category.Category.the-variants.{Me120P120, Me100P100, Ma100P100, Ma100G100, Ma90G90}
 use Rattle.judge.specs.declared.order.Order.{Order}
@@ -21,22 +21,17 @@ use Rattle.judge.specs.declared.fact.Facts.{Facts}
 use Rattle.judge.proofs.Grants.{Stands, Granted, best-granted}
 
 module _ (f : Facts) (o : Order) where
-  -- a category that may be granted: the asked or a greater one, that breaks no rule
-  pub record May (k : Category) : Type 0 where
-    pub asked : o .asked ≤ rowOf k .number
-    pub whole : brokenBy k f o ≡ 0
-
-  may-stands : (k : Category) → May k → offerOf f o k .stands ≡ true
+  may-stands : (k : Category) → MayBeGranted f o k → offerOf f o k .stands ≡ true
   unfolding offerOf
-  may-stands k m = ap₂ _&&_ (le-leb (o .asked) (rowOf k .number) (m .asked)) (eq-eqb (brokenBy k f o) 0 (m .whole))
+  may-stands k m = ap₂ _&&_ (le-leb (o .asked) (rowOf k .number) (m .asked)) (eq-eqb (brokenBy k f o) 0 (m .unbroken))
 
-  stands-may : (k : Category) → offerOf f o k .stands ≡ true → May k
+  stands-may : (k : Category) → offerOf f o k .stands ≡ true → MayBeGranted f o k
   unfolding offerOf
   stands-may k e =
       let t = both (leb (o .asked) (rowOf k .number)) (eqb (brokenBy k f o) 0) e in
-      record { asked = leb-true (o .asked) (rowOf k .number) (t .0); whole = eqb-true (brokenBy k f o) 0 (t .1) }
+      record { asked = leb-true (o .asked) (rowOf k .number) (t .0); unbroken = eqb-true (brokenBy k f o) 0 (t .1) }
 
-  pub may-offered : (k : Category) → May k → Stands (map (offerOf f o) categories) (rowOf k .number) (speedOf k f o)
+  pub may-offered : (k : Category) → MayBeGranted f o k → Stands (map (offerOf f o) categories) (rowOf k .number) (speedOf k f o)
   unfolding offerOf
   may-offered Me120P120 m = inl (may-stands Me120P120 m, refl, refl)
   may-offered Me100P100 m = inr (inl (may-stands Me100P100 m, refl, refl))
@@ -44,18 +39,11 @@ module _ (f : Facts) (o : Order) where
   may-offered Ma100G100 m = inr (inr (inr (inl (may-stands Ma100G100 m, refl, refl))))
   may-offered Ma90G90 m = inr (inr (inr (inr (inl (may-stands Ma90G90 m, refl, refl)))))
 
-  -- a category of this number and speed may be granted
-  pub record Offered (n s : ℕ) : Type 0 where
-    pub category : Category
-    pub may : May category
-    pub number : n ≡ rowOf category .number
-    pub speed : s ≡ speedOf category f o
-
-  found : (k : Category) (n s : ℕ) → (offerOf f o k .stands ≡ true) × (n ≡ offerOf f o k .number) × (s ≡ offerOf f o k .speed) → Offered n s
+  found : (k : Category) (n s : ℕ) → (offerOf f o k .stands ≡ true) × (n ≡ offerOf f o k .number) × (s ≡ offerOf f o k .speed) → Offered f o n s
   unfolding offerOf
   found k n s w = record { category = k; may = stands-may k (w .0); number = w .1; speed = w .2 }
 
-  pub offered-may : (n s : ℕ) → Stands (map (offerOf f o) categories) n s → Offered n s
+  pub offered-may : (n s : ℕ) → Stands (map (offerOf f o) categories) n s → Offered f o n s
   offered-may n s (inl w) = found Me120P120 n s w
   offered-may n s (inr (inl w)) = found Me100P100 n s w
   offered-may n s (inr (inr (inl w))) = found Ma100P100 n s w

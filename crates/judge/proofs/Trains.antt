@@ -27,13 +27,13 @@ use Rattle.account.proofs.Portions.{answer-6, answer-0}
 use Rattle.account.proofs.Bytes.{hauled-each}
 use Rattle.account.proofs.Rules.{first-leading}
 use Rattle.judge.specs.Orders.{orderOf}
-use Rattle.judge.specs.Facts.{workingOf, hauledOf, factsOf, factsBeside}
+use Rattle.judge.specs.Facts.{workingOf, hauledOf, factsOf, factsBeside, Working}
 use Rattle.judge.specs.Sheets.{sheetOf}
 use Rattle.judge.specs.Answers.{isDone, orElse, orderRefusals, recordRefusals, trainShape, trainRefusals, trainAnswer, trainSheet, shape, GoodEngines}
 use Rattle.judge.specs.declared.fact.Facts.{Facts}
 use Rattle.judge.specs.declared.Answer.{Answer}
 use Rattle.judge.specs.declared.Answer.the-variants.{Done}
-use Rattle.judge.proofs.Facts.{Working, facts-same}
+use Rattle.judge.proofs.Facts.{facts-same}
 use Rattle.judge.proofs.Answers.{or-else}
 use Rattle.judge.proofs.Sheets.{refused-early, refused-late, groups-done, all-done, none-of, order-ready, whole-some, length-vehicles}
 

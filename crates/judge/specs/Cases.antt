@@ -16,7 +16,7 @@ use Rattle.judge.specs.declared.order.Order.{Order}
 abbrev pub order : Order
 order = record { limits = replicate 5 100; asked = 1; german = 0; coupling = 100000; admissible = 100000 }
 
--- 4 axles, joined, other flags 0
+-- 4 axles, joined, other flags 0; the number, here 1 for each, is read by no rule and stands on no sheet
 abbrev vehicle : ℕ → ℕ → ℕ → ℕ → ℕ → ℕ → ℕ → Vehicle
 vehicle kind mass v m length setting speed =
     record {

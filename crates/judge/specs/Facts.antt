@@ -1,5 +1,6 @@
 -- The facts of a train that the rules and the sheet read: over its records, and beside its working engines from an account.
 use Prim.Native.Nat.{_+_, _≤_, min}
+use mathlib.Core.Path.{_≡_}
 use mathlib.Core.Bool.{not, _&&_, _||_, cond}
 use mathlib.Core.List.{List}
 use lib.ListN.{length, take, drop}
@@ -19,6 +20,9 @@ workingOf train = take (leading isWorking train) train
 
 abbrev pub hauledOf : List Vehicle → List Vehicle
 hauledOf train = drop (leading isWorking train) train
+
+abbrev pub Working : Vehicle → Type 0
+Working v = v .kind ≡ 2
 
 -- in rules and sheet a record is any of the train
 unfoldable pub factsOf : List Vehicle → Facts

@@ -1,5 +1,6 @@
 -- Document 01, "The sheet": a category's speed, and the category granted.
-use Prim.Native.Nat.{ℕ, min}
+use Prim.Native.Nat.{ℕ, _≤_, min}
+use mathlib.Core.Path.{_≡_}
 use mathlib.Core.Bool.{_&&_, cond}
 use mathlib.Core.List.{List, [], _∷_, map}
 use Rattle.record.specs.Words.{_is_, _atMost_}
@@ -41,6 +42,18 @@ bestOf (x ∷ rest) = betterOf x (bestOf rest)
 
 unfoldable pub grantedOf : Facts → Order → Best
 grantedOf f o = bestOf (map (offerOf f o) categories)
+
+-- a category that may be granted: the asked or a greater one, that breaks no rule
+pub record MayBeGranted (f : Facts) (o : Order) (k : Category) : Type 0 where
+  pub asked : o .asked ≤ rowOf k .number
+  pub unbroken : brokenBy k f o ≡ 0
+
+-- a category of this number and speed may be granted
+pub record Offered (f : Facts) (o : Order) (n s : ℕ) : Type 0 where
+  pub category : Category
+  pub may : MayBeGranted f o category
+  pub number : n ≡ rowOf category .number
+  pub speed : s ≡ speedOf category f o
 
 unfoldable pub decisionOf : Facts → Order → Decision
 decisionOf f o =
