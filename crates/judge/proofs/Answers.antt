@@ -16,7 +16,7 @@ use Rattle.record.proofs.Vehicles.{leading-to, leading-all, all-snoc, vehicles-
 use Rattle.judge.specs.Answers.{isDone, orElse}
 use Rattle.judge.specs.declared.Answer.{Answer}
 use Rattle.judge.specs.declared.Answer.the-variants.{Done}
-use Rattle.judge.proofs.Orders.{one-byte}
+use Rattle.record.proofs.Numbers.{number-one}
 
 -- two groups of refusals, one after the other
 pub or-else : (cs ds : List (Case Answer)) → Every (λ c. isDone (c .gives) ≡ false) cs → firstOf Done (cs ++ ds) ≡ orElse (firstOf Done cs) (firstOf Done ds)
@@ -32,7 +32,7 @@ or-else (c ∷ cs) ds n = go (c .applies) (or-else cs ds (n .1))
 kind-byte : (bs : List ℕ) (i : ℕ) → 24 * i + 24 ≤ length bs → vehicle (recordAt bs i) .kind ≡ getD bs (24 * i + 17) 0
 unfolding vehicle
 kind-byte bs i h =
-    one-byte (recordAt bs i) 17 (omega (arith, record-length bs i h))
+    number-one (recordAt bs i) 17 (omega (arith, record-length bs i h))
     ∙ getD-take 24 (drop (24 * i) bs) 17 0 (omega arith)
     ∙ getD-drop (24 * i) bs 17 0
 

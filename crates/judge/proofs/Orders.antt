@@ -6,18 +6,12 @@ use mathlib.Core.Bool.{Bool, true, false, _&&_}
 use mathlib.Core.List.{List}
 use borrow.Author.Tests.{eq-eqb, ne-eqb}
 use lib.Dec.{leb, leb·zero}
-use lib.ListN.{length, getD, take, drop}
-use lib.Seq.{drop-cons}
+use lib.ListN.{length, getD, take}
 use Rattle.record.specs.Words.{all}
-use Rattle.record.specs.Numbers.{littleEndian}
+use Rattle.record.proofs.Numbers.{number-one}
 use Rattle.record.specs.Vehicles.{field, fieldGood}
 use Rattle.record.proofs.Vehicles.{chain, chain-all}
 use Rattle.judge.specs.Orders.{orderFields, goodOrder, orderValue}
-
--- the number in a field of one byte is the byte
-pub one-byte : (r : List ℕ) (i : ℕ) → i < length r → littleEndian (take 1 (drop i r)) ≡ getD r i 0
-unfolding littleEndian
-one-byte r i h = ap (λ (l : List ℕ). littleEndian (take 1 l)) (drop-cons r i 0 h) ∙ omega arith
 
 pub order-short : (r : List ℕ) → (length r ≡ 24 → ⊥) → false ≡ goodOrder r
 unfolding goodOrder
@@ -26,10 +20,10 @@ order-short r h = rw (ne-eqb (length r) 24 h)
 -- a byte against its table's range from 0, and from 1
 module _ (r : List ℕ) (i : ℕ) (within : i < length r) (high : ℕ) where
   from-0 : leb (getD r i 0) high ≡ fieldGood r (field i 1 0 high)
-  from-0 = rw (one-byte r i within, leb·zero)
+  from-0 = rw (number-one r i within, leb·zero)
 
   from-1 : (leb 1 (getD r i 0) && leb (getD r i 0) high) ≡ fieldGood r (field i 1 1 high)
-  from-1 = rw (one-byte r i within)
+  from-1 = rw (number-one r i within)
 
 -- the code's comparisons, one after the other, are the table's
 module _ (r : List ℕ) (long : length r ≡ 24) (coupling admissible rest : ℕ) (c : coupling ≡ orderValue r 8) (a : admissible ≡ orderValue r 9) (z : rest ≡ orderValue r 10) where

@@ -2,19 +2,18 @@
 use Prim.Native.Nat.{ℕ, zero, suc, _+_, _*_, _-_, _^_, _%_, _≤_, _<_}
 use mathlib.Core.Path.{_≡_, refl, sym, ap, ap₂, _∙_}
 use mathlib.Core.List.{List, [], _∷_, _++_, map, map-append}
-use mathlib.Core.Bool.{Bool, true, false, _&&_, cond, false≢true, and-true, and-false, and-assoc}
+use mathlib.Core.Bool.{Bool, true, false, _&&_, _||_, cond, false≢true, and-true, and-false, and-assoc}
 use native.Mathlib.Nat.{not-suc-le-zero, le-of-suc-le-suc, add-sub-cancel-left}
 use native.Mathlib.Numerals.{add-one}
 use native.Mathlib.Omega.{arith}
-use borrow.Author.Tests.{leb-true, eq-eqb, ne-eqb}
+use borrow.Author.Tests.{leb-true, eqb-true, eq-eqb, ne-eqb}
 use lib.Dec.{leb, eqb}
-use lib.ListN.{length, getD, take, drop, List·getD-map, length-take}
+use lib.ListN.{length, getD, take, drop, length-take}
 use lib.Seq.{take-suc, take-all}
 use Rattle.record.specs.Words.{all, leading}
 use Rattle.record.specs.Numbers.{littleEndian}
 use Rattle.record.specs.Records.{records, recordsOf}
 use Rattle.record.specs.Vehicles.{Field, field, fields, nth, value, fieldGood, good, vehicle, reading, firstBad, vehicles}
-use Rattle.record.specs.declared.field.Field.{Field as Row}
 use Rattle.record.specs.declared.vehicle.Vehicle.{Vehicle}
 use Rattle.record.specs.declared.vehicle.Reading.the-variants.{Good, Bad}
 use Rattle.record.specs.declared.vehicle.Found.{Found}
@@ -67,30 +66,27 @@ module _ {A : Type 0} (p : A → Bool) where
   chain-all b (x ∷ xs) = chain-all (b && p x) xs ∙ and-assoc b (p x) (all p xs)
 
 -- ---- the table of fields
--- what one computed test says of every row: a field lies in its record, and its bytes are at most eight
+-- what one computed test says of every row: a field lies in its record, and is one, two or eight bytes wide
+abbrev narrow : Field → Bool
+narrow d = eqb (d .width) 1 || (eqb (d .width) 2 || eqb (d .width) 8)
+
 abbrev inside : Field → Bool
-inside d = leb (d .width) 8 && leb (d .start + d .width) 24
+inside d = narrow d && leb (d .start + d .width) 24
 
 insides : all inside fields ≡ true
 unfolding all
 insides = refl
 
-pub inside-at : (f : ℕ) → f < 13 → (nth f .width ≤ 8) × (nth f .start + nth f .width ≤ 24)
-inside-at f h =
-    let t = both (leb (nth f .width) 8) (leb (nth f .start + nth f .width) 24) (all-at inside fields f (field 0 0 0 0) h insides) in
-    (leb-true (nth f .width) 8 (t .0), leb-true (nth f .start + nth f .width) 24 (t .1))
+pub inside-at : (f : ℕ) → f < 13 → nth f .start + nth f .width ≤ 24
+inside-at f h = leb-true (nth f .start + nth f .width) 24 (both (narrow (nth f)) (leb (nth f .start + nth f .width) 24) (all-at inside fields f (field 0 0 0 0) h insides) .1)
 
--- a row of the code's table is made of the field
-abbrev pub row : Field → Row
-row d = record { 0 = d .start; 1 = d .width; 2 = d .low; 3 = d .high }
+-- a field that is neither one byte wide nor two is eight
+pub eight-wide : (f : ℕ) → f < 13 → (nth f .width ≡ 1 → ⊥) → (nth f .width ≡ 2 → ⊥) → nth f .width ≡ 8
+eight-wide f h not-one not-two =
+    let t = both (narrow (nth f)) (leb (nth f .start + nth f .width) 24) (all-at inside fields f (field 0 0 0 0) h insides) .0 in
+    eqb-true (nth f .width) 8 (simp (ne-eqb (nth f .width) 1 not-one, ne-eqb (nth f .width) 2 not-two) at t)
 
-pub row-at : (f : ℕ) → getD (map row fields) f (row (field 0 0 0 0)) ≡ row (nth f)
-row-at f = List·getD-map row fields f (field 0 0 0 0)
-
-pub row-inside : (f : ℕ) → f < 13 → getD (map row fields) f (row (field 0 0 0 0)) .0 + getD (map row fields) f (row (field 0 0 0 0)) .1 ≤ 24
-row-inside f h = omega (arith, ap (λ (r : Row). r .0 + r .1) (row-at f), inside-at f h .1)
-
--- the part of a record that code lends for a field
+-- the part of a file that code lends for a number
 pub part-value : (r : List ℕ) (s w : ℕ) → w ≤ 8 → littleEndian (take 8 (take (s + w - s) (drop s r))) ≡ littleEndian (take w (drop s r))
 part-value r s w h =
     ap (λ (n : ℕ). littleEndian (take 8 (take n (drop s r)))) (add-sub-cancel-left s w)

@@ -6,6 +6,7 @@ use lib.ListN.{length, getD, take, drop}
 use Rattle.record.specs.Words.{_is_, _atMost_, all, leading}
 use Rattle.record.specs.Numbers.{littleEndian}
 use Rattle.record.specs.Records.{recordsOf}
+use Rattle.record.specs.declared.field.Field.{Field as Row}
 use Rattle.record.specs.declared.vehicle.Vehicle.{Vehicle}
 use Rattle.record.specs.declared.vehicle.Reading.{Reading}
 use Rattle.record.specs.declared.vehicle.Reading.the-variants.{Good, Bad}
@@ -55,6 +56,10 @@ fields =
 -- the field at a place of the table, counted from 0
 abbrev pub nth : ℕ → Field
 nth f = getD fields f (field 0 0 0 0)
+
+-- the field as a row of the code's table
+abbrev pub row : Field → Row
+row d = record { 0 = d .start; 1 = d .width; 2 = d .low; 3 = d .high }
 
 -- the number in a field of a record
 abbrev pub value : List ℕ → Field → ℕ

@@ -3,17 +3,12 @@ ghost use mathlib.Core.Path.{_≡_};
 ghost use Prim.Native.Nat.{min};
 ghost use lib.ListN.{take};
 ghost use Rattle.record.specs.Numbers.{littleEndian};
+use crate::byte::wide;
 
 fn at_most_eight(n: usize) -> usize
     ensures { λ r. ⌜ r ≡ min 8 n ⌝ }
 {
     if n < 8 { n } else { 8 }
-}
-
-fn wide(byte: u8) -> u64
-    ensures { λ r. ⌜ r ≡ byte ⌝ }
-{
-    byte as u64
 }
 
 // The number that the first eight bytes make, or all if fewer.

@@ -9,7 +9,7 @@ use mathlib.Core.List.{[], _∷_}
 use Rattle.record.specs.Vehicles.{field}
 use Rattle.record.proofs.Vehicles.{part-value, value-below}
 use Rattle.judge.specs.Orders.{orderOf}
-use Rattle.judge.proofs.Orders.{one-byte}
+use Rattle.record.proofs.Numbers.{number-one}
 use borrow.Author.Needs.{needs}
 use Rattle.judge.proofs.order.order_of.Statement.{statement}
 use Rattle.judge.proofs.order.order_of.Tie as tie
@@ -74,7 +74,7 @@ unfolding orderOf
 returns c =
     let s = c .before .before .before .before .before .before .before .before .before .before .before .before in
     let r = now (s .args .order) in
-    let byte : (i : ℕ) → i < 24 → getD r i 0 ≡ littleEndian (take 1 (drop i r)) = λ i h. sym (one-byte r i (omega (arith, s .pre))) in
+    let byte : (i : ℕ) → i < 24 → getD r i 0 ≡ littleEndian (take 1 (drop i r)) = λ i h. sym (number-one r i (omega (arith, s .pre))) in
     λ i.
     record {
       limits = byte 0 (omega arith) i ∷ byte 1 (omega arith) i ∷ byte 2 (omega arith) i ∷ byte 3 (omega arith) i ∷ byte 4 (omega arith) i ∷ [];
