@@ -65,29 +65,37 @@ field-le g f h same v good =
     let e : g v ≡ value (good .bytes) (nth f) = ap g (good .says) ∙ same (good .bytes) in
     omega (arith, at-most (good .bytes) (good .isGood) f h)
 
-mass-le : (v : Vehicle) → GoodHauled v → v .mass ≤ 2500
+pub mass-le : (v : Vehicle) → GoodHauled v → v .mass ≤ 2500
 unfolding vehicle
 mass-le = field-le (λ v. v .mass) 1 (omega arith) (λ r. refl)
 
-vmass-le : (v : Vehicle) → GoodHauled v → v .vmass ≤ 2500
+pub vmass-le : (v : Vehicle) → GoodHauled v → v .vmass ≤ 2500
 unfolding vehicle
 vmass-le = field-le (λ v. v .vmass) 2 (omega arith) (λ r. refl)
 
-mmass-le : (v : Vehicle) → GoodHauled v → v .mmass ≤ 2500
+pub mmass-le : (v : Vehicle) → GoodHauled v → v .mmass ≤ 2500
 unfolding vehicle
 mmass-le = field-le (λ v. v .mmass) 3 (omega arith) (λ r. refl)
 
-length-le : (v : Vehicle) → GoodHauled v → v .length ≤ 1000
+pub length-le : (v : Vehicle) → GoodHauled v → v .length ≤ 1000
 unfolding vehicle
 length-le = field-le (λ v. v .length) 4 (omega arith) (λ r. refl)
 
-axles-le : (v : Vehicle) → GoodHauled v → v .axles ≤ 24
+pub axles-le : (v : Vehicle) → GoodHauled v → v .axles ≤ 24
 unfolding vehicle
 axles-le = field-le (λ v. v .axles) 5 (omega arith) (λ r. refl)
 
-setting-le : (v : Vehicle) → GoodHauled v → v .setting ≤ 3
+pub setting-le : (v : Vehicle) → GoodHauled v → v .setting ≤ 3
 unfolding vehicle
 setting-le = field-le (λ v. v .setting) 7 (omega arith) (λ r. refl)
+
+pub joined-le : (v : Vehicle) → GoodHauled v → v .joined ≤ 1
+unfolding vehicle
+joined-le = field-le (λ v. v .joined) 8 (omega arith) (λ r. refl)
+
+pub dload-le : (v : Vehicle) → GoodHauled v → v .dload ≤ 1
+unfolding vehicle
+dload-le = field-le (λ v. v .dload) 11 (omega arith) (λ r. refl)
 
 -- the settings of the first five, and what pads them
 pad-small : (n k : ℕ) → getD (replicate n 4) k 0 ≤ 4

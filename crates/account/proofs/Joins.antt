@@ -2,7 +2,7 @@
 use Prim.Native.Nat.{ℕ, zero, suc, _≤_}
 use native.Mathlib.Omega.{arith}
 use mathlib.Core.Path.{_≡_, refl, sym, ap, ap₂, _∙_}
-use mathlib.Core.Bool.{Bool, true, false, not, _&&_, _||_, cond, or-false, and-false}
+use mathlib.Core.Bool.{Bool, true, false, not, _&&_, _||_, cond}
 use mathlib.Core.List.{List, [], _∷_, _++_}
 use lib.Dec.{ltb, eqb}
 use lib.ListN.{length, length-append}
@@ -129,7 +129,3 @@ exchanged xs ys a b =
     ∷ same (λ v. cond (isIsolated v) 1 0) i
     ∷ same (λ v. cond (hasDLoad v) 1 0) i
     ∷ []
-
--- one vehicle stands behind no other
-pub behind-alone : (b : Bool) → ((b && false) || false) ≡ false
-behind-alone b = or-false (b && false) ∙ and-false b

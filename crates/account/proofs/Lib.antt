@@ -2,6 +2,7 @@ pub mod Lists
 pub mod Ceils
 pub mod Joins
 pub mod Portions
+pub mod Gathers
 pub mod Bytes
 pub mod Speeds
 pub mod Rules

@@ -1,31 +1,26 @@
 -- The records of a portion, one after the other, and what the portion is answered. Assumes nothing.
 use Prim.Native.Nat.{ℕ, _+_, _*_, _-_, _%_, _≤_, _<_}
 use native.Mathlib.Omega.{arith}
-use native.Mathlib.Numerals.{add-one}
-use mathlib.Core.Path.{_≡_, refl, sym, ap, ap₂, _∙_}
+use mathlib.Core.Path.{_≡_, refl, sym, ap, ap₂, subst, _∙_}
 use mathlib.Core.Bool.{Bool, true, false, not, _||_, cond, or-true}
 use mathlib.Core.List.{List, [], _∷_, _++_, map, map-append}
 use borrow.Author.Tests.{eq-eqb, ne-eqb, lt-ltb, le-ltb}
-use lib.ListN.{length, take, drop, length-map}
+use lib.ListN.{length, take, drop}
 use Rattle.record.specs.Words.{all, leading, Every}
 use Rattle.record.specs.Records.{recordCount, records, recordsOf}
 use Rattle.record.specs.Vehicles.{good, vehicle, reading, vehicles, isWorking}
 use Rattle.record.specs.declared.vehicle.Vehicle.{Vehicle}
 use Rattle.record.specs.declared.vehicle.Reading.the-variants.{Good}
-use Rattle.record.proofs.Records.{recordAt, records-split, length-records}
-use Rattle.record.proofs.Vehicles.{at-most, part-good, vehicles-snoc}
+use Rattle.record.proofs.Records.{recordAt, records-split}
+use Rattle.record.proofs.Vehicles.{at-most, part-good}
 use Rattle.account.specs.Figures.{some}
 use Rattle.account.specs.Accounts.{accountOf}
-use Rattle.account.specs.Ceilings.{Within}
-use Rattle.account.specs.Joining.{joining}
 use Rattle.account.specs.Answers.{doneWith, refusedBy, answered}
 use Rattle.account.specs.Portions.{portionRefusals, engineOrBad, accounted}
 use Rattle.account.specs.Groupings.{GoodHauled}
 use Rattle.account.specs.declared.Account.{Account}
 use Rattle.account.specs.declared.Answer.the-variants.{NotWhole, TooMany, BadField, WorkingEngine}
-use Rattle.account.proofs.Lists.{some-append, every-append}
-use Rattle.account.proofs.Ceils.{portion-ceilings}
-use Rattle.account.proofs.Joins.{account-append, each-hauled}
+use Rattle.account.proofs.Lists.{some-append}
 
 -- ---- working engines
 pub none-working : (xs : List Vehicle) → Every GoodHauled xs → some isWorking xs ≡ false
@@ -50,26 +45,11 @@ pub good-hauled : (r : List ℕ) → good r ≡ true → (vehicle r .kind ≡ 2 
 good-hauled r g w = record { bytes = r; isGood = g; says = refl; hauled = omega (arith, kind-le r g) }
 
 -- what the part of a portion that code lends for a record reads as, where it is no working engine
-pub read-hauled : (bs : List ℕ) (i : ℕ) (v : Vehicle) → Good v ≡ reading (take (24 * i + 24 - 24 * i) (drop (24 * i) bs)) → (v .kind ≡ 2 → ⊥)
-    → (good (recordAt bs i) ≡ true) × (v ≡ vehicle (recordAt bs i)) × GoodHauled (vehicle (recordAt bs i))
-read-hauled bs i v e w =
+pub read-good : (bs : List ℕ) (i : ℕ) (v : Vehicle) → Good v ≡ reading (take (24 * i + 24 - 24 * i) (drop (24 * i) bs)) → (v .kind ≡ 2 → ⊥)
+    → (good (recordAt bs i) ≡ true) × (v ≡ vehicle (recordAt bs i)) × GoodHauled v
+read-good bs i v e w =
     let g = part-good bs i v e in
-    (g .0, g .1, good-hauled (recordAt bs i) (g .0) (λ k. w (ap (λ (x : Vehicle). x .kind) (g .1) ∙ k)))
-
-module _ (bs : List ℕ) (i : ℕ) (before : Every GoodHauled (map vehicle (records i bs))) where
-  pub each-more : GoodHauled (vehicle (recordAt bs i)) → Every GoodHauled (map vehicle (records (i + 1) bs))
-  each-more g = rw (add-one, vehicles-snoc) (every-append GoodHauled (map vehicle (records i bs)) (vehicle (recordAt bs i) ∷ []) before (g, tt))
-
-  pub account-more : joining (accountOf (map vehicle (records i bs))) (accountOf (vehicle (recordAt bs i) ∷ [])) ≡ accountOf (map vehicle (records (i + 1) bs))
-  account-more = rw (add-one, vehicles-snoc) (sym (account-append (map vehicle (records i bs)) (vehicle (recordAt bs i) ∷ []) (each-hauled (map vehicle (records i bs)) before)))
-
-  pub within-before : i ≤ 200 → Within (accountOf (map vehicle (records i bs)))
-  within-before h =
-      portion-ceilings (map vehicle (records i bs))
-      (record { each = before; few = omega (arith, length-map (records i bs) vehicle, length-records i bs) })
-
-pub within-one : (v : Vehicle) → GoodHauled v → Within (accountOf (v ∷ []))
-within-one v g = portion-ceilings (v ∷ []) (record { each = (g, tt); few = omega arith })
+    (g .0, g .1, subst GoodHauled (sym (g .1)) (good-hauled (recordAt bs i) (g .0) (λ k. w (ap (λ (x : Vehicle). x .kind) (g .1) ∙ k))))
 
 -- ---- the answers, in document 01's order
 engine-refused : (fine : Bool) (place : ℕ) (a : Account)

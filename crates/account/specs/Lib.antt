@@ -5,5 +5,6 @@ pub mod Joining
 pub mod Answers
 pub mod Portions
 pub mod Groupings
+pub mod Gathering
 pub mod Readings
 pub mod Speed

@@ -1,12 +1,9 @@
-// The figures of one account: the empty one, that of one vehicle, the ceilings.
+// The figures of one account: the empty one, the ceilings.
 ghost use mathlib.Core.Path.{_≡_};
-ghost use mathlib.Core.Bool.{cond};
-ghost use mathlib.Core.List.{[], _∷_};
 ghost use Prim.Native.Nat.{min};
-ghost use Rattle.account.specs.Accounts.{accountOf, empty};
+ghost use Rattle.account.specs.Accounts.{empty};
 ghost use Rattle.account.specs.Ceilings.{within};
 use crate::Account;
-use record::vehicle::Vehicle;
 
 pub fn empty_account() -> Account
     ensures { λ r. ⌜ r ≡ empty ⌝ }
@@ -66,39 +63,4 @@ pub fn lesser(x: u32, y: u32) -> u32
     ensures { λ r. ⌜ r ≡ min x y ⌝ }
 {
     if x < y { x } else { y }
-}
-
-// `x` where the mark holds, and else 0.
-fn only(mark: bool, x: u32) -> u32
-    ensures { λ r. ⌜ r ≡ cond mark x 0 ⌝ }
-{
-    if mark { x } else { 0 }
-}
-
-pub fn account_of_one(v: Vehicle) -> Account
-    ensures { λ r. ⌜ r ≡ accountOf (v ∷ []) ⌝ }
-{
-    let isolated = only(v.setting == 0, 1);
-    Account {
-        count: 1,
-        mass: v.mass,
-        vmass: only(v.setting == 2, v.vmass),
-        mmass: only(v.setting == 1, v.mmass),
-        length: v.length,
-        axles: v.axles,
-        vaxles: only(v.setting == 2, v.axles),
-        engines: only(v.kind == 1, 1),
-        mset: only(v.setting == 1, 1),
-        isolated: isolated,
-        dloads: only(v.dload == 1, 1),
-        leading: isolated,
-        trailing: isolated,
-        longest: isolated,
-        behind: false,
-        rule16: v.setting == 3,
-        rule17: !(v.joined == 1),
-        rule18: (v.kind == 0) & (v.matrossow == 1) & !(v.setting == 0),
-        slowest: lesser(v.speed, 200),
-        first: [v.setting, 4, 4, 4, 4],
-    }
 }

@@ -6,13 +6,13 @@ ghost use Rattle.account.specs.Joining.{onward, fill, joining};
 use crate::Account;
 use crate::figure::lesser;
 
-fn greater(x: u32, y: u32) -> u32
+pub fn greater(x: u32, y: u32) -> u32
     ensures { λ r. ⌜ r ≡ max x y ⌝ }
 {
     if x < y { y } else { x }
 }
 
-fn sum(x: u32, y: u32) -> u32
+pub fn sum(x: u32, y: u32) -> u32
     requires { ⌜ x + y < 2 ^ 32 ⌝ }
     ensures { λ r. ⌜ r ≡ x + y ⌝ }
 {
@@ -31,6 +31,9 @@ fn go_on(run: u32, n: u32, next: u32) -> u32
 fn fill_first(n: u32, left: [u32; 5], right: [u32; 5]) -> [u32; 5]
     ensures { λ r. ⌜ r ≡ fill n left right ⌝ }
 {
+    if 5 <= n {
+        return left;
+    }
     let mut first = left;
     let mut i = n;
     while i < 5 {

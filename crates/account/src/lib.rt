@@ -5,6 +5,10 @@ ghost use Rattle.account.specs.Answers.{doneWith, refusedBy};
 ghost use Rattle.account.specs.Ceilings.{within};
 ghost use Rattle.account.specs.Portions.{accounted, engineOrBad, joined};
 ghost use Rattle.account.specs.Speed.{holdsTheSpeed};
+use crate::gather::account_from;
+use crate::gather::add_at;
+use crate::gather::set_at;
+use crate::gather::with_one;
 use record::vehicle::Found;
 use record::vehicle::Reading;
 use record::vehicle::SIZE;
@@ -12,6 +16,7 @@ use record::vehicle::first_bad;
 use record::vehicle::read;
 
 mod figure;
+mod gather;
 mod joining;
 mod speed;
 
@@ -112,7 +117,12 @@ pub fn account_of(portion: &[u8]) -> Accounted
     if MOST < n {
         return refused(Answer::TooMany);
     }
-    let mut account = figure::empty_account();
+    let mut running = gather::none_yet();
+    let mut counts = [0u32; 4];
+    let mut vmasses = [0u32; 4];
+    let mut mmasses = [0u32; 4];
+    let mut vaxles = [0u32; 4];
+    let mut first = [4u32; 5];
     let mut i = 0;
     while i < n {
         let at = SIZE * i;
@@ -122,10 +132,15 @@ pub fn account_of(portion: &[u8]) -> Accounted
         if vehicle.kind == 2 {
             return refused(engine_or_bad(portion));
         }
-        account = joining::add(account, figure::account_of_one(vehicle));
+        add_at(&mut counts, vehicle.setting, 1);
+        add_at(&mut vmasses, vehicle.setting, vehicle.vmass);
+        add_at(&mut mmasses, vehicle.setting, vehicle.mmass);
+        add_at(&mut vaxles, vehicle.setting, vehicle.axles);
+        set_at(&mut first, i, vehicle.setting);
+        running = with_one(running, vehicle);
         i += 1;
     }
-    done(account)
+    done(account_from(portion, running, counts, vmasses, mmasses, vaxles, first))
 }
 
 // Whether an account has no figure above its ceiling; 7 is for the rest.

@@ -1,36 +1,44 @@
--- `account::account_of` meets its contract: the records before `i` are good and hauled, and `account` is theirs. Assumes nothing.
-use Prim.Native.Nat.{ℕ, _-_, _≤_}
+-- `account::account_of` meets its contract: the records before `i` are good and hauled, and what is gathered is theirs. Assumes nothing.
+use Prim.Native.Nat.{_-_, _≤_}
 use native.Mathlib.Omega.{arith}
-use mathlib.Core.Path.{_≡_, refl, sym, ap, ap₂, subst, _∙_}
+use mathlib.Core.Path.{_≡_, refl, sym, ap, _∙_}
 use mathlib.Core.Bool.{true}
-use mathlib.Core.List.{[], _∷_, map}
+use mathlib.Core.List.{map}
 use borrow.Author.Tests.{eq-eqb}
 use denote.Ref.{now}
-use Rattle.record.specs.Words.{all, Every}
+use Rattle.record.specs.Words.{all}
 use Rattle.record.specs.Records.{recordCount, records}
 use Rattle.record.proofs.Records.{recordAt}
 use Rattle.record.specs.Vehicles.{good, vehicle, vehicles, isWorking}
 use Rattle.record.specs.declared.vehicle.Vehicle.{Vehicle}
 use Rattle.record.proofs.Vehicles.{part-good, part-bad, records-more, first-place}
-use Rattle.account.specs.Accounts.{accountOf}
 use Rattle.account.specs.Answers.{doneWith, refusedBy}
-use Rattle.account.specs.Ceilings.{Within}
-use Rattle.account.specs.Joining.{joining}
-use Rattle.account.specs.Groupings.{GoodHauled}
-use Rattle.account.proofs.Portions.{none-working, working-there, read-hauled, each-more, account-more, within-before, within-one, answer-1, answer-2, answer-3, answer-6, answer-0}
+use Rattle.account.specs.Gathering.{Gathered}
+use Rattle.account.proofs.Gathers.{Turn, turn, gathered-more}
+use Rattle.account.proofs.Portions.{none-working, working-there, answer-1, answer-2, answer-3, answer-6, answer-0}
 use borrow.Author.Needs.{needs}
 use Rattle.account.proofs.account_of.Statement.{statement}
 use Rattle.account.proofs.account_of.Tie as tie
+use Rattle.account.proofs.account_of.Reads as reads
+use Rattle.account.proofs.account_of.Lts as lts
+use Rattle.account.proofs.refused.Reads as refused-reads
+use Rattle.account.proofs.gather.none_yet.Reads as none-yet-reads
+use Rattle.account.proofs.engine_or_bad.Reads as engine-or-bad-reads
+use Rattle.account.proofs.gather.add_at.Reads as add-at-reads
+use Rattle.account.proofs.gather.set_at.Reads as set-at-reads
+use Rattle.account.proofs.gather.with_one.Reads as with-one-reads
+use Rattle.account.proofs.gather.account_from.Reads as account-from-reads
+use Rattle.account.proofs.done.Reads as done-reads
+use Rattle.record.proofs.vehicle.read.Reads as read-reads
 
 abbrev Inv-loop : tie.InvT-loop
-Inv-loop portion n account₀ i₀ account i =
+Inv-loop portion n running₀ counts₀ vmasses₀ mmasses₀ vaxles₀ first₀ i₀ running counts vmasses mmasses vaxles first i =
     (i ≤ n)
-    × (account ≡ accountOf (map vehicle (records i portion)))
     × (all good (records i portion) ≡ true)
-    × Every GoodHauled (map vehicle (records i portion))
+    × Gathered (map vehicle (records i portion)) running counts vmasses mmasses vaxles first
 
 abbrev μ-loop : tie.MeasureT-loop
-μ-loop portion n account₀ i₀ account i = n - i
+μ-loop portion n running₀ counts₀ vmasses₀ mmasses₀ vaxles₀ first₀ i₀ running counts vmasses mmasses vaxles first i = n - i
 
 refused-requires : tie.Need-refused-requires Inv-loop μ-loop
 refused-requires c κs = search needs
@@ -44,12 +52,13 @@ refused-requires-2 c κs = search needs
 returns-2 : tie.Need-returns-2 Inv-loop μ-loop
 returns-2 c = c .refused2 .ensures ∙ answer-2 _ (c .before .before .if1 .left) (c .before .if2 .taken)
 
-empty-account-requires : tie.Need-empty-account-requires Inv-loop μ-loop
-empty-account-requires c κs = search needs
+none-yet-requires : tie.Need-none-yet-requires Inv-loop μ-loop
+none-yet-requires c κs = search needs
 
 loop-holds : tie.Need-loop-holds Inv-loop μ-loop
 unfolding all records
-loop-holds c = (omega arith, c .empty-account .ensures, refl, tt)
+loop-holds c =
+    (omega arith, refl, record { each = tt; running = c .none-yet .ensures; count = refl; vmass = refl; mmass = refl; vaxles = refl; five = refl })
 
 mul-at : tie.Need-mul-at Inv-loop μ-loop
 mul-at c = search needs
@@ -85,7 +94,7 @@ returns-3 c =
     let l = s .loop in
     let bad = part-bad bs (l .i) (sym (c .before .enum-told .given .1) ∙ c .before .before .before .read .ensures) in
     c .refused3 .ensures
-    ∙ answer-3 bs (s .before .before .before .if1 .left) (s .before .before .if2 .left) (l .i) (first-place _ (l .i) bs (c .before .before .before .before .before .loop-test .taken) (l .inv .2) bad)
+    ∙ answer-3 bs (s .before .before .before .if1 .left) (s .before .before .if2 .left) (l .i) (first-place _ (l .i) bs (c .before .before .before .before .before .loop-test .taken) (l .inv .1) bad)
 
 engine-or-bad-requires : tie.Need-engine-or-bad-requires Inv-loop μ-loop
 engine-or-bad-requires c κs = search needs
@@ -104,52 +113,81 @@ returns-4 c =
     ∙ ap refusedBy (c .before .engine-or-bad .ensures)
     ∙ answer-6 bs (s .before .before .before .if1 .left) (s .before .before .if2 .left) (working-there bs (l .i) (c .before .before .before .before .before .before .before .before .before .loop-test .taken) w)
 
-account-of-one-requires : tie.Need-account-of-one-requires Inv-loop μ-loop
-account-of-one-requires c κs = search needs
+-- the record at `i` was read, and is no working engine
+abbrev Here : Type 0
+Here = lts.Else3 (refused-reads.Asked, refused-reads.Learnt, none-yet-reads.Asked, none-yet-reads.Learnt, read-reads.Asked, read-reads.Learnt, engine-or-bad-reads.Asked, engine-or-bad-reads.Learnt, add-at-reads.Asked, add-at-reads.Learnt, set-at-reads.Asked, set-at-reads.Learnt, with-one-reads.Asked, with-one-reads.Learnt, account-from-reads.Asked, account-from-reads.Learnt, done-reads.Asked, done-reads.Learnt) reads.Pre reads.Post Inv-loop μ-loop
 
-add-requires : tie.Need-add-requires Inv-loop μ-loop
-add-requires c κs =
-    let s = c .before .before .before .before .before .before .before .before .before in
-    let bs = now (s .before .before .before .before .before .args .portion) in
-    let l = s .loop in
-    let g = read-hauled bs (l .i) _ (sym (c .before .before .before .before .vehicle .given .1) ∙ c .before .before .before .before .before .before .read .ensures) (c .before .if3 .left) in
-    let few : l .i ≤ 200 = omega (arith, s .before .before .if2 .left, c .before .before .before .before .before .before .before .before .loop-test .taken) in (
-      subst Within (sym (l .inv .1)) (within-before bs (l .i) (l .inv .3) few),
-      subst Within (sym (c .account-of-one .ensures ∙ ap (λ (v : Vehicle). accountOf (v ∷ [])) (g .1))) (within-one _ (g .2)),
-    )
+here : (e : Here)
+    → let l = e .before .before .before .before .before .before .before .before .loop in
+    Turn (now (e .before .before .before .before .before .before .before .before .before .before .before .before .before .args .portion)) (l .i) (e .before .before .before .vehicle .given .0 .0) (l .running) (l .counts) (l .vmasses) (l .mmasses) (l .vaxles) (l .first)
+here e =
+    let s = e .before .before .before .before .before .before .before .before in
+    turn (now (s .before .before .before .before .before .args .portion)) (s .loop .i) _ (sym (e .before .before .before .vehicle .given .1) ∙ e .before .before .before .before .before .read .ensures) (e .if3 .left) (omega (arith, s .before .before .if2 .left)) _ _ _ _ _ _ (s .loop .inv .2)
+
+add-at-requires : tie.Need-add-at-requires Inv-loop μ-loop
+add-at-requires c κs = here (c .before) .count
+
+add-at-requires-2 : tie.Need-add-at-requires-2 Inv-loop μ-loop
+add-at-requires-2 c κs = here (c .before .before .before) .vmass
+
+add-at-requires-3 : tie.Need-add-at-requires-3 Inv-loop μ-loop
+add-at-requires-3 c κs = here (c .before .before .before .before .before) .mmass
+
+add-at-requires-4 : tie.Need-add-at-requires-4 Inv-loop μ-loop
+add-at-requires-4 c κs = here (c .before .before .before .before .before .before .before) .vaxles
+
+set-at-requires : tie.Need-set-at-requires Inv-loop μ-loop
+set-at-requires c κs = here (c .before .before .before .before .before .before .before .before .before) .five
+
+with-one-requires : tie.Need-with-one-requires Inv-loop μ-loop
+with-one-requires c κs = here (c .before .before .before .before .before .before .before .before .before .before) .room
 
 add-i : tie.Need-add-i Inv-loop μ-loop
-add-i c = omega (arith, c .before .before .before .before .before .before .before .before .before .loop-test .taken, c .before .before .before .before .before .before .before .before .before .before .before .before .if2 .left)
+add-i c =
+    let e = c .before .before .before .before .before .before .before .before .before .before .before in
+    omega (arith, e .before .before .before .before .before .before .before .loop-test .taken, e .before .before .before .before .before .before .before .before .before .before .if2 .left)
 
 loop-less : tie.Need-loop-less Inv-loop μ-loop
-loop-less c = search needs
+loop-less c = omega (arith, c .before .before .before .before .before .before .before .before .before .before .before .before .before .before .before .before .before .before .loop-test .taken)
 
 loop-again : tie.Need-loop-again Inv-loop μ-loop
 loop-again c =
-    let bs = now (c .before .before .before .before .before .before .before .before .before .before .before .before .before .before .before .args .portion) in
-    let l = c .before .before .before .before .before .before .before .before .before .before .loop in
-    let g = read-hauled bs (l .i) _ (sym (c .before .before .before .before .before .vehicle .given .1) ∙ c .before .before .before .before .before .before .before .read .ensures) (c .before .before .if3 .left) in (
-      omega arith,
-      c .add .ensures
-          ∙ ap₂ joining (l .inv .1) (c .before .account-of-one .ensures ∙ ap (λ (v : Vehicle). accountOf (v ∷ [])) (g .1))
-          ∙ account-more bs (l .i) (l .inv .3),
-      records-more bs (l .i) (l .inv .2) (g .0),
-      each-more bs (l .i) (l .inv .3) (g .2),
+    let e = c .before .before .before .before .before .before .before .before .before .before .before in
+    let s = e .before .before .before .before .before .before .before .before in
+    let bs = now (s .before .before .before .before .before .args .portion) in
+    let l = s .loop in
+    let t = here e in (
+      omega (arith, e .before .before .before .before .before .before .before .loop-test .taken),
+      records-more bs (l .i) (l .inv .1) (t .fine),
+      gathered-more bs (l .i) _ (t .says) (t .hauled) (l .running) _ _ _ _ _ _ _ _ _ _ _ (l .inv .2)
+          (c .before .before .before .before .before .before .before .before .before .add-at .ensures)
+          (c .before .before .before .before .before .before .before .add-at2 .ensures)
+          (c .before .before .before .before .before .add-at3 .ensures)
+          (c .before .before .before .add-at4 .ensures)
+          (c .before .set-at .ensures)
+          (c .with-one .ensures),
     )
+
+account-from-requires : tie.Need-account-from-requires Inv-loop μ-loop
+account-from-requires c κs =
+    let l = c .before .loop in
+    let end : l .i ≡ recordCount (now (c .before .before .before .before .before .before .args .portion)) = omega arith in
+    let g = l .inv .2 in
+    (c .before .before .before .if2 .left, rw end at g)
 
 done-requires : tie.Need-done-requires Inv-loop μ-loop
 done-requires c κs = search needs
 
 returns-5 : tie.Need-returns-5 Inv-loop μ-loop
 returns-5 c =
-    let bs = now (c .before .before .before .before .before .before .before .args .portion) in
-    let l = c .before .before .loop in
-    let z : l .i ≡ recordCount bs = omega arith in
-    let good = l .inv .2 in
-    let each = l .inv .3 in
+    let bs = now (c .before .before .before .before .before .before .before .before .args .portion) in
+    let l = c .before .before .before .loop in
+    let end : l .i ≡ recordCount bs = omega arith in
+    let good = l .inv .1 in
+    let each = l .inv .2 .each in
     c .done .ensures
-    ∙ ap doneWith (l .inv .1 ∙ ap (λ (n : ℕ). accountOf (map vehicle (records n bs))) z)
-    ∙ answer-0 bs (c .before .before .before .before .before .if1 .left) (c .before .before .before .before .if2 .left) (rw z at good) (none-working (vehicles bs) (rw z at each))
+    ∙ ap doneWith (c .before .account-from .ensures)
+    ∙ answer-0 bs (c .before .before .before .before .before .before .if1 .left) (c .before .before .before .before .before .if2 .left) (rw end at good) (none-working (vehicles bs) (rw end at each))
 
 pub account-of-spec : {M : Type 1} → statement M
 account-of-spec =
@@ -161,7 +199,7 @@ account-of-spec =
     returns
     refused-requires-2
     returns-2
-    empty-account-requires
+    none-yet-requires
     loop-holds
     mul-at
     add-read
@@ -176,10 +214,15 @@ account-of-spec =
     engine-or-bad-requires
     refused-requires-4
     returns-4
-    account-of-one-requires
-    add-requires
+    add-at-requires
+    add-at-requires-2
+    add-at-requires-3
+    add-at-requires-4
+    set-at-requires
+    with-one-requires
     add-i
     loop-less
     loop-again
+    account-from-requires
     done-requires
     returns-5)

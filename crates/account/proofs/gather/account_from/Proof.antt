@@ -1,0 +1,107 @@
+-- `account::gather::account_from` meets its contract, figure by figure. Assumes nothing.
+use Prim.Native.Nat.{ℕ}
+use native.Mathlib.Omega.{arith}
+use mathlib.Core.Path.{_≡_, sym, ap, ap₂, _∙_}
+use mathlib.Core.List.{List}
+use lib.Dec.{ltb}
+use lib.ListN.{length, getD}
+use denote.Ref.{now}
+use Rattle.record.specs.Records.{recordCount, recordsOf}
+use Rattle.record.specs.Vehicles.{vehicles, isJoined, isR}
+use Rattle.record.proofs.Records.{length-records}
+use Rattle.account.specs.Accounts.{accountOf}
+use Rattle.account.specs.Gathering.{runningOf, hasByte}
+use Rattle.account.specs.declared.gather.Running.{Running}
+use Rattle.account.proofs.Lists.{leading-le, some-count, lack-count}
+use Rattle.account.proofs.Joins.{each-hauled}
+use Rattle.account.proofs.Gathers.{leading-isolated, leading-engines, behind-ahead, length-before}
+use borrow.Author.Needs.{needs}
+use Rattle.account.proofs.gather.account_from.Statement.{statement}
+use Rattle.account.proofs.gather.account_from.Tie as tie
+
+cast-count : tie.Need-cast-count
+cast-count c = search needs
+
+run-of-requires : tie.Need-run-of-requires
+run-of-requires c κs = search needs
+
+cast-leading : tie.Need-cast-leading
+cast-leading c =
+    let bs = now (c .before .before .args .portion) in
+    omega (arith, c .before .before .pre .0, c .run-of .ensures, leading-le (hasByte 18 0) (recordsOf bs), length-records (recordCount bs) bs)
+
+run-of-requires-2 : tie.Need-run-of-requires-2
+run-of-requires-2 c κs = search needs
+
+cast-engines-ahead : tie.Need-cast-engines-ahead
+cast-engines-ahead c =
+    let bs = now (c .before .before .before .args .portion) in
+    omega (arith, c .before .before .before .pre .0, c .run-of2 .ensures, leading-le (hasByte 17 1) (recordsOf bs), length-records (recordCount bs) bs)
+
+array-read-t19 : tie.Need-array-read-t19
+array-read-t19 c = search needs
+
+array-read-t22 : tie.Need-array-read-t22
+array-read-t22 c = search needs
+
+array-read-t25 : tie.Need-array-read-t25
+array-read-t25 c = search needs
+
+array-read-t28 : tie.Need-array-read-t28
+array-read-t28 c = search needs
+
+array-read-t31 : tie.Need-array-read-t31
+array-read-t31 c = search needs
+
+array-read-t35 : tie.Need-array-read-t35
+array-read-t35 c = search needs
+
+returns : tie.Need-returns
+unfolding accountOf runningOf
+returns c =
+    let s = c .before .before .before .before .before in
+    let bs = now (s .args .portion) in
+    let g = s .pre .1 in
+    let n : recordCount bs ≡ length (vehicles bs) = sym (length-before bs (recordCount bs)) in
+    λ i.
+    record {
+      count = n i;
+      mass = g .running i .mass;
+      vmass = getD (g .vmass i) 2 0;
+      mmass = getD (g .mmass i) 1 0;
+      length = g .running i .length;
+      axles = g .running i .axles;
+      vaxles = getD (g .vaxles i) 2 0;
+      engines = g .running i .engines;
+      mset = getD (g .count i) 1 0;
+      isolated = getD (g .count i) 0 0;
+      dloads = g .running i .dloads;
+      leading = (c .before .before .before .run-of .ensures ∙ sym (leading-isolated (recordsOf bs))) i;
+      trailing = g .running i .trailing;
+      longest = g .running i .longest;
+      behind =
+          (ap₂ ltb (c .before .before .run-of2 .ensures ∙ sym (leading-engines (recordsOf bs))) (ap (λ (a : Running). a .engines) (g .running))
+          ∙ sym (behind-ahead (vehicles bs) (each-hauled (vehicles bs) (g .each)))) i;
+      rule16 = (ap (λ (l : List ℕ). ltb 0 (getD l 3 0)) (g .count) ∙ sym (some-count isR (vehicles bs))) i;
+      rule17 = (ap₂ ltb (ap (λ (a : Running). a .joined) (g .running)) n ∙ sym (lack-count isJoined (vehicles bs))) i;
+      rule18 = g .running i .rule18;
+      slowest = g .running i .slowest;
+      first = g .five i;
+    }
+
+pub account-from-spec : {M : Type 1} → statement M
+account-from-spec =
+    tie.close
+    (tie.spec
+    cast-count
+    run-of-requires
+    cast-leading
+    run-of-requires-2
+    cast-engines-ahead
+    array-read-t19
+    array-read-t22
+    array-read-t25
+    array-read-t28
+    array-read-t31
+    array-read-t35
+    returns)

@@ -1,0 +1,151 @@
+// The figures of the records so far, as the loop over a portion gathers them.
+ghost use mathlib.Core.Path.{_≡_};
+ghost use mathlib.Core.Bool.{cond};
+ghost use mathlib.Core.List.{[]};
+ghost use Prim.Native.Nat.{_+_, _<_, _≤_, _^_};
+ghost use lib.ListN.{length, getD, set};
+ghost use Rattle.record.specs.Records.{recordCount, recordsOf};
+ghost use Rattle.record.specs.Vehicles.{vehicles};
+ghost use Rattle.record.specs.Words.{leading};
+ghost use Rattle.account.specs.Accounts.{accountOf};
+ghost use Rattle.account.specs.Gathering.{Room, Gathered, runningOf, withOne, hasByte};
+use crate::Account;
+use crate::figure::lesser;
+use crate::joining::greater;
+use crate::joining::sum;
+use record::vehicle::SIZE;
+use record::vehicle::Vehicle;
+
+// The figures that no setting parts, and how many are joined.
+pub struct Running {
+    pub mass: u32,
+    pub length: u32,
+    pub axles: u32,
+    pub engines: u32,
+    pub dloads: u32,
+    pub joined: u32,
+    pub trailing: u32,
+    pub longest: u32,
+    pub rule18: bool,
+    pub slowest: u32,
+}
+
+pub fn none_yet() -> Running
+    ensures { λ r. ⌜ r ≡ runningOf [] ⌝ }
+{
+    Running {
+        mass: 0,
+        length: 0,
+        axles: 0,
+        engines: 0,
+        dloads: 0,
+        joined: 0,
+        trailing: 0,
+        longest: 0,
+        rule18: false,
+        slowest: 200,
+    }
+}
+
+// A run of isolated that ends here.
+fn run_to(isolated: bool, run: u32) -> u32
+    requires { ⌜ run + 1 < 2 ^ 32 ⌝ }
+    ensures { λ r. ⌜ r ≡ cond isolated (run + 1) 0 ⌝ }
+{
+    if isolated { run + 1 } else { 0 }
+}
+
+// One record more. Marks of 0 and 1 add as they are.
+pub fn with_one(so_far: Running, v: Vehicle) -> Running
+    requires { ⌜ Room «so_far» v ⌝ }
+    ensures { λ r. ⌜ r ≡ withOne «so_far» v ⌝ }
+{
+    let trailing = run_to(v.setting == 0, so_far.trailing);
+    Running {
+        mass: sum(so_far.mass, v.mass),
+        length: sum(so_far.length, v.length),
+        axles: sum(so_far.axles, v.axles),
+        engines: sum(so_far.engines, v.kind),
+        dloads: sum(so_far.dloads, v.dload),
+        joined: sum(so_far.joined, v.joined),
+        trailing: trailing,
+        longest: greater(so_far.longest, trailing),
+        rule18: so_far.rule18 | ((v.kind == 0) & (v.matrossow == 1) & !(v.setting == 0)),
+        slowest: lesser(so_far.slowest, v.speed),
+    }
+}
+
+// A figure by setting: an index where a test for each setting would be.
+pub fn add_at(figure: &mut [u32; 4], setting: u32, x: u32)
+    requires { ⌜ (setting < 4) × (getD (now figure) setting 0 + x < 2 ^ 32) ⌝ }
+    ensures { λ _. ⌜ now (figure .exit) ≡ set (now (figure .entry)) setting (getD (now (figure .entry)) setting 0 + x) ⌝ }
+{
+    figure[setting as usize] = figure[setting as usize] + x;
+}
+
+// The setting at place `i`, where it is one of the first five.
+pub fn set_at(first: &mut [u32; 5], i: usize, setting: u32)
+    requires { ⌜ length (now first) ≡ 5 ⌝ }
+    ensures { λ _. ⌜ now (first .exit) ≡ set (now (first .entry)) i setting ⌝ }
+{
+    if i < 5 {
+        first[i] = setting;
+    }
+}
+
+// How many records from the first on have `x` at byte `at`.
+fn run_of(portion: &[u8], at: usize, x: u8) -> usize
+    requires { ⌜ at < 24 ⌝ }
+    ensures { λ r. ⌜ r ≡ leading (hasByte at x) (recordsOf (now (portion .entry))) ⌝ }
+{
+    let n = portion.len() / SIZE;
+    let mut k = 0;
+    while k < n {
+        if portion[SIZE * k + at] != x {
+            return k;
+        }
+        k += 1;
+    }
+    n
+}
+
+// The account of a portion, out of what was gathered of it.
+pub fn account_from(
+    portion: &[u8],
+    running: Running,
+    counts: [u32; 4],
+    vmasses: [u32; 4],
+    mmasses: [u32; 4],
+    vaxles: [u32; 4],
+    first: [u32; 5],
+) -> Account
+    requires { ⌜ recordCount (now portion) ≤ 200 ⌝ }
+    requires { ⌜ Gathered (vehicles (now portion)) running counts vmasses mmasses vaxles first ⌝ }
+    ensures { λ r. ⌜ r ≡ accountOf (vehicles (now (portion .entry))) ⌝ }
+{
+    let count = (portion.len() / SIZE) as u32;
+    let leading = run_of(portion, 18, 0) as u32;
+    let engines_ahead = run_of(portion, 17, 1) as u32;
+    Account {
+        count: count,
+        mass: running.mass,
+        vmass: vmasses[2],
+        mmass: mmasses[1],
+        length: running.length,
+        axles: running.axles,
+        vaxles: vaxles[2],
+        engines: running.engines,
+        mset: counts[1],
+        isolated: counts[0],
+        dloads: running.dloads,
+        leading: leading,
+        trailing: running.trailing,
+        longest: running.longest,
+        behind: engines_ahead < running.engines,
+        rule16: 0 < counts[3],
+        rule17: running.joined < count,
+        rule18: running.rule18,
+        slowest: running.slowest,
+        first: first,
+    }
+}
