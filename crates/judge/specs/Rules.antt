@@ -2,6 +2,7 @@
 use Prim.Native.Nat.{ℕ, min}
 use mathlib.Core.Bool.{Bool, not, _&&_, cond}
 use mathlib.Core.List.{List, [], _∷_, _++_}
+use lib.ListN.{take, drop}
 use Rattle.record.specs.Words.{_is_, _above_, _atMost_, Case, firstOf}
 use Rattle.judge.specs.Categories.{rowOf, lineSpeed}
 use Rattle.judge.specs.Brakes.{begunOf, isShort}
@@ -82,6 +83,10 @@ ownRules t f =
     -- 47, all: braked mass too small
     ∷ rule 47 (t .short)
     ∷ []
+
+-- 31 to 46, which ask nothing that differs within 1 to 3, or within 4 and 5
+abbrev pub middleRules : Terms → Facts → List (Case ℕ)
+middleRules t f = take 11 (drop 1 (ownRules t f))
 
 abbrev pub rules : Category → Facts → Order → List (Case ℕ)
 rules k f o = commonRules f ++ ownRules (termsOf k f o) f

@@ -1,8 +1,9 @@
 -- Document 01, "The sheet, 32 bytes": its figures, and where each stands.
-use Prim.Native.Nat.{ℕ, _/_, _%_}
+use Prim.Native.Nat.{ℕ}
 use mathlib.Core.Bool.{_&&_, cond}
 use mathlib.Core.List.{List, [], _∷_}
 use lib.ListN.{getD}
+use Rattle.record.specs.Numbers.{fourBytes}
 use Rattle.record.specs.Words.{_is_, _above_, _atMost_}
 use Rattle.margin.specs.Margin.{tonnesOf, bytesOf}
 use Rattle.judge.specs.Categories.{percentageOf}
@@ -44,10 +45,6 @@ figuresOf f o =
       braked = brakedOf (categoryOf (o .asked)) f;
       length = f .trainLength;
     }
-
--- a number in four bytes, the least first, before what follows
-abbrev pub fourBytes : ℕ → List ℕ → List ℕ
-fourBytes x rest = x % 256 ∷ x / 256 % 256 ∷ x / 65536 % 256 ∷ x / 16777216 % 256 ∷ rest
 
 abbrev pub sheetBytes : Sheet → List ℕ
 sheetBytes x =

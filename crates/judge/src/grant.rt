@@ -1,7 +1,7 @@
 // A category's speed, and the category granted.
 ghost use mathlib.Core.Path.{_≡_};
 ghost use Rattle.judge.specs.Facts.{Bounded};
-ghost use Rattle.judge.specs.Rules.{firstBroken, commonRules};
+ghost use Rattle.judge.specs.Rules.{firstBroken, commonRules, termsOf, middleRules};
 ghost use Rattle.judge.specs.Grants.{speedOf, offerOf, betterOf, decisionOf};
 use crate::category::Category;
 use crate::category::line_speed;
@@ -10,6 +10,7 @@ use crate::fact::Facts;
 use crate::order::Order;
 use crate::rule::broken_by;
 use crate::rule::first_common;
+use crate::rule::first_middle;
 
 // A category as it is offered: its speed, the first rule it breaks, and whether it may be granted.
 pub struct Offer {
@@ -46,13 +47,14 @@ fn speed_of(k: Category, f: Facts, o: Order) -> u8
     lesser(own, lesser(line, f.slowest)) as u8
 }
 
-fn offered(common: u8, k: Category, f: Facts, o: Order) -> Offer
+fn offered(common: u8, middle: u8, k: Category, f: Facts, o: Order) -> Offer
     requires { ⌜ Bounded f ⌝ }
     requires { ⌜ common ≡ firstBroken (commonRules f) ⌝ }
+    requires { ⌜ middle ≡ firstBroken (middleRules (termsOf k f o) f) ⌝ }
     ensures { λ r. ⌜ r ≡ offerOf f o k ⌝ }
 {
     let number = k.number();
-    let broken = broken_by(common, k, f, o);
+    let broken = broken_by(common, middle, k, f, o);
     Offer {
         number: number,
         speed: speed_of(k, f, o),
@@ -80,11 +82,13 @@ pub fn decide(f: Facts, o: Order) -> Decision
     ensures { λ r. ⌜ r ≡ decisionOf f o ⌝ }
 {
     let common = first_common(f);
-    let x1 = offered(common, Category::Me120P120, f, o);
-    let x2 = offered(common, Category::Me100P100, f, o);
-    let x3 = offered(common, Category::Ma100P100, f, o);
-    let x4 = offered(common, Category::Ma100G100, f, o);
-    let x5 = offered(common, Category::Ma90G90, f, o);
+    let p = first_middle(Category::Me120P120, f, o);
+    let g = first_middle(Category::Ma100G100, f, o);
+    let x1 = offered(common, p, Category::Me120P120, f, o);
+    let x2 = offered(common, p, Category::Me100P100, f, o);
+    let x3 = offered(common, p, Category::Ma100P100, f, o);
+    let x4 = offered(common, g, Category::Ma100G100, f, o);
+    let x5 = offered(common, g, Category::Ma90G90, f, o);
     let none = Best {
         number: 0,
         speed: 0,

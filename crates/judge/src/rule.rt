@@ -4,7 +4,7 @@ ghost use mathlib.Core.Bool.{cond};
 ghost use lib.ListN.{length};
 ghost use Rattle.judge.specs.Facts.{Bounded};
 ghost use Rattle.judge.specs.Marks.{firstMarked};
-ghost use Rattle.judge.specs.Rules.{firstBroken, commonRules, termsOf, ownRules, brokenBy};
+ghost use Rattle.judge.specs.Rules.{firstBroken, commonRules, termsOf, middleRules, brokenBy};
 use crate::brake::begun;
 use crate::brake::is_short;
 use crate::category::Category;
@@ -61,13 +61,13 @@ pub fn first_common(f: Facts) -> u8
     first_of(&numbers, &marks)
 }
 
-fn first_own(t: Terms, f: Facts) -> u8
-    ensures { λ r. ⌜ r ≡ firstBroken (ownRules t f) ⌝ }
+// The first of rules 31 to 46 broken, or 0.
+fn middle_by(t: Terms, f: Facts) -> u8
+    ensures { λ r. ⌜ r ≡ firstBroken (middleRules t f) ⌝ }
 {
     let g = t.isg;
-    let numbers = [30u8, 31, 32, 33, 34, 35, 40, 41, 42, 43, 44, 46, 47];
+    let numbers = [31u8, 32, 33, 34, 35, 40, 41, 42, 43, 44, 46];
     let marks = [
-        t.line == 0,
         f.engines > t.most,
         g & (f.vmass > 2000),
         g & (f.longest > 10),
@@ -79,7 +79,6 @@ fn first_own(t: Terms, f: Facts) -> u8
         !g & (f.hauledMass > 12000) & f.firstFiveV,
         !g & (f.hauledMass > 12000) & f.afterFifthM,
         !g & (t.begun > 10),
-        t.short,
     ];
     first_of(&numbers, &marks)
 }
@@ -108,14 +107,29 @@ fn terms_of(k: Category, f: Facts, o: Order) -> Terms
     }
 }
 
-// The first rule that a category breaks, given the first common one.
-pub fn broken_by(common: u8, k: Category, f: Facts, o: Order) -> u8
+// The first of rules 31 to 46 that a category breaks, or 0: the same for 1 to 3, and for 4 and 5.
+pub fn first_middle(k: Category, f: Facts, o: Order) -> u8
+    requires { ⌜ Bounded f ⌝ }
+    ensures { λ r. ⌜ r ≡ firstBroken (middleRules (termsOf k f o) f) ⌝ }
+{
+    middle_by(terms_of(k, f, o), f)
+}
+
+// The first rule that a category breaks, given the first common one and the first of 31 to 46.
+pub fn broken_by(common: u8, middle: u8, k: Category, f: Facts, o: Order) -> u8
     requires { ⌜ Bounded f ⌝ }
     requires { ⌜ common ≡ firstBroken (commonRules f) ⌝ }
+    requires { ⌜ middle ≡ firstBroken (middleRules (termsOf k f o) f) ⌝ }
     ensures { λ r. ⌜ r ≡ brokenBy k f o ⌝ }
 {
     if common != 0 {
         return common;
     }
-    first_own(terms_of(k, f, o), f)
+    if line_speed(k, o) == 0 {
+        return 30;
+    }
+    if middle != 0 {
+        return middle;
+    }
+    if is_short(k, f, o) { 47 } else { 0 }
 }

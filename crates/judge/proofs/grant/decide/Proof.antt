@@ -2,6 +2,7 @@
 use mathlib.Core.Path.{ap, _∙_}
 use Prim.Native.Nat.{ℕ}
 use mathlib.Core.List.{[], _∷_}
+use Rattle.judge.specs.Rules.{termsOf}
 use Rattle.judge.specs.Grants.{offerOf, betterOf, bestOf, grantedOf, decisionOf}
 use Rattle.judge.specs.declared.grant.Offer.{Offer}
 use Rattle.judge.specs.declared.grant.Best.{Best}
@@ -29,20 +30,29 @@ decidedOf common x1 x2 x3 x4 x5 = decided common x1 x2 x3 x4 x5 (bestOf (x1 ∷ 
 first-common-requires : tie.Need-first-common-requires
 first-common-requires c κs = search needs
 
+first-middle-requires : tie.Need-first-middle-requires
+first-middle-requires c κs = search needs
+
+first-middle-requires-2 : tie.Need-first-middle-requires-2
+first-middle-requires-2 c κs = search needs
+
 offered-requires : tie.Need-offered-requires
 offered-requires c κs = search needs
 
 offered-requires-2 : tie.Need-offered-requires-2
-offered-requires-2 c κs = search needs
+unfolding termsOf
+offered-requires-2 c κs = (c .before .before .before .before .pre, (c .before .before .before .first-common .ensures, c .before .before .first-middle .ensures))
 
 offered-requires-3 : tie.Need-offered-requires-3
-offered-requires-3 c κs = search needs
+unfolding termsOf
+offered-requires-3 c κs = (c .before .before .before .before .before .pre, (c .before .before .before .before .first-common .ensures, c .before .before .before .first-middle .ensures))
 
 offered-requires-4 : tie.Need-offered-requires-4
 offered-requires-4 c κs = search needs
 
 offered-requires-5 : tie.Need-offered-requires-5
-offered-requires-5 c κs = search needs
+unfolding termsOf
+offered-requires-5 c κs = (c .before .before .before .before .before .before .before .pre, (c .before .before .before .before .before .before .first-common .ensures, c .before .before .before .before .first-middle2 .ensures))
 
 better-requires : tie.Need-better-requires
 better-requires c κs = search needs
@@ -70,10 +80,10 @@ returns c =
     let x5 = s .offered5 .result in
     let rest4 = c .before .before .before .better2 .ensures ∙ ap (betterOf x4) (c .before .before .before .before .better .ensures) in
     let rest2 = c .before .better4 .ensures ∙ ap (betterOf x2) (c .before .before .better3 .ensures ∙ ap (betterOf x3) rest4) in
-    ap (decided (s .before .before .before .before .before .first-common .result) x1 x2 x3 x4 x5) (c .better5 .ensures ∙ ap (betterOf x1) rest2)
+    ap (decided (s .before .before .before .before .before .before .before .first-common .result) x1 x2 x3 x4 x5) (c .better5 .ensures ∙ ap (betterOf x1) rest2)
     ∙ (λ i.
     decidedOf
-    (s .before .before .before .before .before .first-common .ensures i)
+    (s .before .before .before .before .before .before .before .first-common .ensures i)
     (s .before .before .before .before .offered .ensures i)
     (s .before .before .before .offered2 .ensures i)
     (s .before .before .offered3 .ensures i)
@@ -85,6 +95,8 @@ decide-spec =
     tie.close
     (tie.spec
     first-common-requires
+    first-middle-requires
+    first-middle-requires-2
     offered-requires
     offered-requires-2
     offered-requires-3
