@@ -4,47 +4,11 @@ ghost use mathlib.Core.List.{_++_};
 ghost use Prim.Native.Nat.{_≤_, min};
 ghost use lib.ListN.{length, drop};
 ghost use lib.Seq.{sets};
-ghost use Rattle.judge.specs.Answers.{numberOf, placeOf};
 ghost use Rattle.bench.specs.Lines.{orderPart, vehiclePart, lineBy, lineOf};
-use judge::Answer;
+use answer::number_of;
+use answer::place_of;
 
 mod text;
-
-fn number_of(answer: Answer) -> usize
-    ensures { λ r. ⌜ r ≡ numberOf answer ⌝ }
-{
-    match answer {
-        Answer::Done => 0,
-        Answer::NotWhole => 1,
-        Answer::TooMany => 2,
-        Answer::BadField(_) => 3,
-        Answer::BadOrder => 4,
-        Answer::ShortSheet => 5,
-        Answer::AboveCeiling => 7,
-        Answer::NotWorking => 11,
-        Answer::WorkingBehind => 12,
-        Answer::ManyEngines => 13,
-        Answer::NothingHauled => 14,
-    }
-}
-
-fn place_of(answer: Answer) -> usize
-    ensures { λ r. ⌜ r ≡ placeOf answer ⌝ }
-{
-    match answer {
-        Answer::BadField(place) => place,
-        Answer::Done => 0,
-        Answer::NotWhole => 0,
-        Answer::TooMany => 0,
-        Answer::BadOrder => 0,
-        Answer::ShortSheet => 0,
-        Answer::AboveCeiling => 0,
-        Answer::NotWorking => 0,
-        Answer::WorkingBehind => 0,
-        Answer::ManyEngines => 0,
-        Answer::NothingHauled => 0,
-    }
-}
 
 fn lesser(x: usize, y: usize) -> usize
     ensures { λ r. ⌜ r ≡ min x y ⌝ }
