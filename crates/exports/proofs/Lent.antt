@@ -1,0 +1,174 @@
+-- Laws of what is answered and lent: a number is small, and a place is that of one of 200 records. Assumes nothing.
+use Prim.Native.Nat.{ℕ, zero, suc, _+_, _≤_, _<_}
+use mathlib.Core.Path.{_≡_, refl, sym, ap, _∙_}
+use mathlib.Core.Bool.{Bool, true, false, not, _||_, _&&_, cond}
+use mathlib.Core.List.{List, [], _∷_, _++_}
+use native.Mathlib.Omega.{arith}
+use borrow.Author.Tests.{ltb-false, lt-ltb, le-ltb, eq-eqb, ne-eqb}
+use lib.ListN.{length, take, drop, length-take}
+use lib.Seq.{take-all}
+use Rattle.record.specs.Words.{_is_, _above_, _atMost_, all, leading, Every, Case, firstOf}
+use Rattle.record.specs.Records.{records, recordCount, recordsOf, isWhole}
+use Rattle.record.specs.Vehicles.{good, vehicles, isWorking}
+use Rattle.record.proofs.Records.{length-records}
+use Rattle.account.specs.Figures.{some}
+use Rattle.account.specs.Ceilings.{within}
+use Rattle.account.specs.Answers as account
+use Rattle.account.specs.Portions.{portionRefusals, accounted, joinRefusals, joined}
+use Rattle.account.specs.Speed.{firstWith, slowestOf, wholeGood, holdsTheSpeed}
+use Rattle.account.specs.declared.Account.{Account}
+use Rattle.account.specs.declared.Accounted.{Accounted}
+use Rattle.account.specs.declared.Answer as account-answer
+use Rattle.account.specs.declared.Answer.the-variants as account-case
+use Rattle.account.proofs.Lists.{leading-le}
+use Rattle.judge.specs.Answers.{numberOf, placeOf, trainRefusals, trainAnswer, accountRefusals, accountAnswer, orderRefusals, trainShape, engineShape}
+use Rattle.judge.specs.declared.Answer.{Answer}
+use Rattle.judge.specs.declared.Answer.the-variants.{Done, NotWhole, TooMany, BadField, BadOrder, ShortSheet, AboveCeiling, NotWorking, WorkingBehind, ManyEngines, NothingHauled}
+use Rattle.travel.specs.AccountRecords.{recordOf}
+use Rattle.exports.specs.Lent.{oneNumber, lentNumber, lentAccount, lentVehicle}
+
+pub number-small : (answer : Answer) → numberOf answer ≤ 14
+number-small Done = omega arith
+number-small NotWhole = omega arith
+number-small TooMany = omega arith
+number-small (BadField place) = omega arith
+number-small BadOrder = omega arith
+number-small ShortSheet = omega arith
+number-small AboveCeiling = omega arith
+number-small NotWorking = omega arith
+number-small WorkingBehind = omega arith
+number-small ManyEngines = omega arith
+number-small NothingHauled = omega arith
+
+place-in : (bs : List ℕ) → leading good (recordsOf bs) ≤ recordCount bs
+place-in bs = omega (arith, leading-le good (recordsOf bs), length-records (recordCount bs) bs)
+
+-- answers of either library
+module _ {A : Type 0} (place : A → ℕ) where
+  either : (b : Bool) (x y : A) → place x ≤ 200 → place y ≤ 200 → place (cond b x y) ≤ 200
+  either true x y h k = h
+  either false x y h k = k
+
+  first-place : (other : A) (cs : List (Case A)) → place other ≤ 200 → Every (λ c. place (c .gives) ≤ 200) cs → place (firstOf other cs) ≤ 200
+  first-place other [] h e = h
+  first-place other (c ∷ cs) h e = either (c .applies) (c .gives) (firstOf other cs) (e .0) (first-place other cs h (e .1))
+
+  -- 2 is asked before 3
+  many-or-bad : (bs : List ℕ) (n : ℕ) (tooMany badField rest : A) (bad : Bool) → recordCount bs ≤ n → place tooMany ≤ 200 → place badField ≡ leading good (recordsOf bs)
+      → place rest ≤ 200 → place (cond (n above 200) tooMany (cond bad badField rest)) ≤ 200
+  many-or-bad bs n tooMany badField rest bad few h b k = go (n above 200) refl
+    where
+      go : (many : Bool) → (n above 200) ≡ many → place (cond many tooMany (cond bad badField rest)) ≤ 200
+      go true e = h
+      go false e = either bad badField rest (omega (arith, b, place-in bs, few, ltb-false 200 n e)) k
+
+pub train-place : (bs order : List ℕ) (room : ℕ) → placeOf (trainAnswer bs order room) ≤ 200
+unfolding trainRefusals
+train-place bs order room =
+    either placeOf (length bs is 0 || not (isWhole bs)) NotWhole _ (omega arith)
+    (many-or-bad placeOf bs (recordCount bs) TooMany (BadField (leading good (recordsOf bs))) _ (not (all good (recordsOf bs))) (omega arith) (omega arith) refl
+    (first-place placeOf Done (orderRefusals order room ++ trainShape (vehicles bs)) (omega arith) (omega arith)))
+
+pub account-place : (bs : List ℕ) (hauled : Account) (order : List ℕ) (room : ℕ) → placeOf (accountAnswer bs hauled order room) ≤ 200
+unfolding accountRefusals
+account-place bs hauled order room =
+    either placeOf (length bs is 0 || not (isWhole bs)) NotWhole _ (omega arith)
+    (either placeOf (not (within hauled)) AboveCeiling _ (omega arith)
+    (many-or-bad placeOf bs (recordCount bs + hauled .count) TooMany (BadField (leading good (recordsOf bs))) _ (not (all good (recordsOf bs))) (omega arith) (omega arith) refl
+    (first-place placeOf Done (orderRefusals order room ++ engineShape (vehicles bs) hauled) (omega arith) (omega arith))))
+
+-- ---- an account that is lent
+pub account-number-small : (answer : account-answer.Answer) → account.numberOf answer ≤ 7
+account-number-small account-case.Done = omega arith
+account-number-small account-case.NotWhole = omega arith
+account-number-small account-case.TooMany = omega arith
+account-number-small (account-case.BadField place) = omega arith
+account-number-small account-case.WorkingEngine = omega arith
+account-number-small account-case.AboveCeiling = omega arith
+
+-- what is done has no place
+done-place : (answer : account-answer.Answer) → account.numberOf answer ≡ 0 → account.placeOf answer ≡ 0
+done-place account-case.Done e = refl
+done-place account-case.NotWhole e = refl
+done-place account-case.TooMany e = refl
+done-place (account-case.BadField place) e = absurd (omega arith)
+done-place account-case.WorkingEngine e = refl
+done-place account-case.AboveCeiling e = refl
+
+pub portion-place : (bs : List ℕ) → account.placeOf (accounted bs .answer) ≤ 200
+unfolding portionRefusals
+portion-place bs =
+    either account.placeOf (not (isWhole bs)) account-case.NotWhole _ (omega arith)
+    (many-or-bad account.placeOf bs (recordCount bs) account-case.TooMany (account-case.BadField (leading good (recordsOf bs))) _ (not (all good (recordsOf bs))) (omega arith) (omega arith) refl
+    (either account.placeOf (some isWorking (vehicles bs)) account-case.WorkingEngine account-case.Done (omega arith) (omega arith)))
+
+pub join-place : (left right : Account) → account.placeOf (joined left right .answer) ≤ 200
+unfolding joinRefusals
+join-place left right = first-place account.placeOf account-case.Done (joinRefusals left right) (omega arith) (omega arith)
+
+pub lent-not-done : (r : Accounted) → (account.numberOf (r .answer) ≡ 0 → ⊥) → oneNumber (account.numberOf (r .answer)) (account.placeOf (r .answer)) ≡ 0 → ⊥
+lent-not-done r h e = h (omega (arith, e))
+
+module _ (r : Accounted) (room : List ℕ) (n : ℕ) (answered : n ≡ oneNumber (account.numberOf (r .answer)) (account.placeOf (r .answer))) where
+  pub lent-refused : (n ≡ 0 → ⊥) → (n ≡ lentNumber r (length room)) × (room ≡ lentAccount r room)
+  unfolding lentNumber lentAccount
+  lent-refused h =
+      let z : account.numberOf (r .answer) ≡ 0 → ⊥ = λ e. h (omega (arith, answered, e, done-place (r .answer) e)) in
+      let t = ne-eqb (account.numberOf (r .answer)) 0 z in
+      (rw t answered, rw (t, ne-eqb (oneNumber (account.numberOf (r .answer)) (account.placeOf (r .answer))) 0 (λ e. h (answered ∙ e))))
+
+  done : n ≡ 0 → account.numberOf (r .answer) ≡ 0
+  done z = omega (arith, answered)
+
+  pub lent-short : n ≡ 0 → length room < 64 → (5 ≡ lentNumber r (length room)) × (room ≡ lentAccount r room)
+  unfolding lentNumber lentAccount
+  lent-short z h =
+      let t = eq-eqb (account.numberOf (r .answer)) 0 (done z) in
+      (rw (t, lt-ltb (length room) 64 h), rw (t, lt-ltb (length room) 64 h))
+
+  pub lent-done : n ≡ 0 → 64 ≤ length room → (0 ≡ lentNumber r (length room)) × (recordOf (r .account) ++ drop 64 room ≡ lentAccount r room)
+  unfolding lentNumber lentAccount
+  lent-done z h =
+      let t = eq-eqb (account.numberOf (r .answer)) 0 (done z) in
+      let o : oneNumber (account.numberOf (r .answer)) (account.placeOf (r .answer)) ≡ 0 = sym answered ∙ z in
+      (rw (t, le-ltb (length room) 64 h) (sym o), rw (t, le-ltb (length room) 64 h, eq-eqb _ 0 o))
+
+-- ---- the vehicle that is lent
+-- all of one list over the front of another
+pub copied : (to : List ℕ) {from want : List ℕ} → from ≡ want → take (length from) from ++ drop (length from) to ≡ want ++ drop (length want) to
+copied to {from} {want} e = ap (λ (l : List ℕ). take (length l) l ++ drop (length l) to) e ∙ ap (λ (l : List ℕ). l ++ drop (length want) to) (take-all (length want) want (omega arith))
+
+first-with-fits : (p : List ℕ → Bool) (rs : List (List ℕ)) → Every (λ r. length r ≤ 24) rs → length (firstWith p rs) ≤ 24
+unfolding firstWith
+first-with-fits p [] h = omega arith
+first-with-fits p (r ∷ rs) h = go (p r) (first-with-fits p rs (h .1))
+  where
+    go : (b : Bool) → length (firstWith p rs) ≤ 24 → length (cond b r (firstWith p rs)) ≤ 24
+    go true e = h .0
+    go false e = e
+
+every-append : {A : Type 0} (P : A → Type 0) (xs ys : List A) → Every P xs → Every P ys → Every P (xs ++ ys)
+every-append P [] ys h k = k
+every-append P (x ∷ xs) ys h k = (h .0, every-append P xs ys (h .1) k)
+
+records-fit : (n : ℕ) (bs : List ℕ) → Every (λ r. length r ≤ 24) (records n bs)
+unfolding records
+records-fit zero bs = tt
+records-fit (suc n) bs = (omega (arith, length-take 24 bs), records-fit n (drop 24 bs))
+
+pub vehicle-fits : (front back : List ℕ) → length (holdsTheSpeed front back) ≤ 24
+unfolding holdsTheSpeed slowestOf
+vehicle-fits front back = go (wholeGood front && wholeGood back && recordCount front + recordCount back atMost 200)
+  where
+    go : (b : Bool) → length (cond b (slowestOf (recordsOf front ++ recordsOf back)) []) ≤ 24
+    go true = first-with-fits _ (recordsOf front ++ recordsOf back) (every-append (λ (r : List ℕ). length r ≤ 24) (recordsOf front) (recordsOf back) (records-fit (recordCount front) front) (records-fit (recordCount back) back))
+    go false = omega arith
+
+module _ (front back : List ℕ) (room : ℕ) where
+  pub vehicle-none : room < 24 → [] ≡ lentVehicle front back room
+  unfolding lentVehicle
+  vehicle-none h = rw (lt-ltb room 24 h)
+
+  pub vehicle-there : 24 ≤ room → holdsTheSpeed front back ≡ lentVehicle front back room
+  unfolding lentVehicle
+  vehicle-there h = rw (le-ltb room 24 h)

@@ -1,0 +1,53 @@
+-- `exports::prskavon_sheet_of_account` meets its contract: it is the judging library's. Assumes nothing.
+use mathlib.Core.Path.{ap, _∙_}
+use native.Mathlib.Omega.{arith}
+use denote.Ref.{now}
+use lib.ListN.{length}
+use Rattle.account.specs.declared.Account.{Account}
+use Rattle.judge.specs.Answers.{placeOf, accountAnswer, accountSheet}
+use Rattle.exports.specs.Lent.{sheetNumber}
+use Rattle.exports.proofs.Lent.{account-place}
+use borrow.Author.Needs.{needs}
+use Rattle.exports.proofs.prskavon_sheet_of_account.Statement.{statement}
+use Rattle.exports.proofs.prskavon_sheet_of_account.Tie as tie
+
+offered-by-requires : tie.Need-offered-by-requires
+offered-by-requires c κs = search needs
+
+sheet-of-account-requires : tie.Need-sheet-of-account-requires
+sheet-of-account-requires c κs = search needs
+
+one-number-requires : tie.Need-one-number-requires
+one-number-requires c κs =
+    let o = c .before .before .before .before in
+    let a = o .before .before .before .before .before .args in
+    omega (
+      arith,
+      ap placeOf (c .before .before .sheet-of-account .ensures .0),
+      account-place (now (a .engines)) (o .offered-by .result) (now (a .order)) (length (now (a .sheet))),
+    )
+
+same-length : tie.Need-same-length
+same-length c = search needs
+
+returns : tie.Need-returns
+returns c =
+    let o = c .before .before .before .before .before in
+    let a = o .before .before .before .before .before .args in
+    let l = c .before .before .before .sheet-of-account .ensures in
+    let e = o .offered-by .ensures in (
+      c .one-number .ensures
+          ∙ ap sheetNumber (l .0)
+          ∙ ap (λ (h : Account). sheetNumber (accountAnswer (now (a .engines)) h (now (a .order)) (length (now (a .sheet))))) e,
+      l .1 ∙ ap (λ (h : Account). accountSheet (now (a .engines)) h (now (a .order)) (now (a .sheet))) e,
+    )
+
+pub prskavon-sheet-of-account-spec : {M : Type 1} → statement M
+prskavon-sheet-of-account-spec =
+    tie.close
+    (tie.spec
+    offered-by-requires
+    sheet-of-account-requires
+    one-number-requires
+    same-length
+    returns)

@@ -1,0 +1,29 @@
+-- `exports::prskavon_sheet_of_train` meets its contract: it is the judging library's. Assumes nothing.
+use mathlib.Core.Path.{ap, _∙_}
+use native.Mathlib.Omega.{arith}
+use denote.Ref.{now}
+use lib.ListN.{length}
+use Rattle.judge.specs.Answers.{placeOf}
+use Rattle.exports.specs.Lent.{sheetNumber}
+use Rattle.exports.proofs.Lent.{train-place}
+use borrow.Author.Needs.{needs}
+use Rattle.exports.proofs.prskavon_sheet_of_train.Statement.{statement}
+use Rattle.exports.proofs.prskavon_sheet_of_train.Tie as tie
+
+sheet-of-train-requires : tie.Need-sheet-of-train-requires
+sheet-of-train-requires c κs = search needs
+
+one-number-requires : tie.Need-one-number-requires
+one-number-requires c κs =
+    let a = c .before .before .before .before .before .before .before .args in
+    omega (arith, ap placeOf (c .before .before .sheet-of-train .ensures .0), train-place (now (a .vehicles)) (now (a .order)) (length (now (a .sheet))))
+
+same-length : tie.Need-same-length
+same-length c = search needs
+
+returns : tie.Need-returns
+returns c = (c .one-number .ensures ∙ ap sheetNumber (c .before .before .before .sheet-of-train .ensures .0), c .before .before .before .sheet-of-train .ensures .1)
+
+pub prskavon-sheet-of-train-spec : {M : Type 1} → statement M
+prskavon-sheet-of-train-spec =
+    tie.close (tie.spec sheet-of-train-requires one-number-requires same-length returns)

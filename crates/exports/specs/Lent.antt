@@ -1,0 +1,32 @@
+-- What a C function answers and leaves in the buffer that it is lent.
+use Prim.Native.Nat.{ℕ, _+_, _*_}
+use mathlib.Core.Bool.{_&&_, cond}
+use mathlib.Core.List.{List, [], _++_}
+use lib.ListN.{length, drop}
+use Rattle.record.specs.Words.{_is_, _above_}
+use Rattle.account.specs.Answers as account
+use Rattle.account.specs.Speed.{holdsTheSpeed}
+use Rattle.account.specs.declared.Accounted.{Accounted}
+use Rattle.judge.specs.Answers as judge
+use Rattle.judge.specs.declared.Answer.{Answer}
+use Rattle.travel.specs.AccountRecords.{recordOf}
+
+-- an answer as one number
+abbrev pub oneNumber : ℕ → ℕ → ℕ
+oneNumber number place = number + 256 * place
+
+abbrev pub sheetNumber : Answer → ℕ
+sheetNumber answer = oneNumber (judge.numberOf answer) (judge.placeOf answer)
+
+-- of an account for a room of so many bytes: its refusals as document 01 orders them, then 5 for a room shorter than 64
+unfoldable pub lentNumber : Accounted → ℕ → ℕ
+lentNumber r room =
+    cond (account.numberOf (r .answer) is 0 && 64 above room) 5 (oneNumber (account.numberOf (r .answer)) (account.placeOf (r .answer)))
+
+-- a refused call writes nothing; a done call writes its first 64 bytes and no other
+unfoldable pub lentAccount : Accounted → List ℕ → List ℕ
+lentAccount r room = cond (lentNumber r (length room) is 0) (recordOf (r .account) ++ drop 64 room) room
+
+-- the vehicle that holds the speed, where there is one and room for its 24 bytes
+unfoldable pub lentVehicle : List ℕ → List ℕ → ℕ → List ℕ
+lentVehicle front back room = cond (24 above room) [] (holdsTheSpeed front back)

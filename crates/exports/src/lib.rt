@@ -1,0 +1,87 @@
+// The C functions that a yard's or a partner's program links; include/prskavon.h documents them.
+ghost use mathlib.Core.Path.{_≡_};
+ghost use mathlib.Core.List.{_++_};
+ghost use Prim.Native.Nat.{_≤_};
+ghost use lib.ListN.{length, drop};
+ghost use Rattle.account.specs.Portions.{accounted, joined};
+ghost use Rattle.judge.specs.Answers.{placeOf, trainAnswer, trainSheet, accountAnswer, accountSheet};
+ghost use Rattle.travel.specs.AccountRecords.{offered};
+ghost use Rattle.exports.specs.Lent.{sheetNumber, lentNumber, lentAccount, lentVehicle};
+use account::account_of;
+use account::holds_the_speed;
+use account::join;
+use answer::number_of;
+use answer::place_of;
+use judge::Answer;
+use judge::sheet_of_account;
+use judge::sheet_of_train;
+use lend::lend;
+use travel::offered_by;
+
+mod lend;
+
+// An answer of the judging library as one number; a place is that of one of 200 records.
+fn one_number(answer: Answer) -> u64
+    requires { ⌜ placeOf answer ≤ 200 ⌝ }
+    ensures { λ r. ⌜ r ≡ sheetNumber answer ⌝ }
+{
+    (number_of(answer) + 256 * place_of(answer)) as u64
+}
+
+// The sheet of a whole train.
+#[no_mangle]
+pub extern "C" fn prskavon_sheet_of_train(vehicles: &[u8], order: &[u8], sheet: &mut [u8]) -> u64
+    ensures { λ r. ⌜ r ≡ sheetNumber (trainAnswer (now (vehicles .entry)) (now (order .entry)) (length (now (sheet .entry)))) ⌝ }
+    ensures { λ _. ⌜ now (sheet .exit) ≡ trainSheet (now (vehicles .entry)) (now (order .entry)) (now (sheet .entry)) ⌝ }
+{
+    one_number(sheet_of_train(vehicles, order, sheet))
+}
+
+// The account of a portion of hauled vehicles.
+#[no_mangle]
+pub extern "C" fn prskavon_account_of(portion: &[u8], account: &mut [u8]) -> u64
+    ensures { λ r. ⌜ r ≡ lentNumber (accounted (now (portion .entry))) (length (now (account .entry))) ⌝ }
+    ensures { λ _. ⌜ now (account .exit) ≡ lentAccount (accounted (now (portion .entry))) (now (account .entry)) ⌝ }
+{
+    lend(account_of(portion), account)
+}
+
+// The account of two neighbouring portions, from their accounts.
+#[no_mangle]
+pub extern "C" fn prskavon_join(left: &[u8], right: &[u8], account: &mut [u8]) -> u64
+    ensures { λ r. ⌜ r ≡ lentNumber (joined (offered (now (left .entry))) (offered (now (right .entry)))) (length (now (account .entry))) ⌝ }
+    ensures { λ _. ⌜ now (account .exit) ≡ lentAccount (joined (offered (now (left .entry))) (offered (now (right .entry)))) (now (account .entry)) ⌝ }
+{
+    lend(join(offered_by(left), offered_by(right)), account)
+}
+
+// The sheet of working engines lent apart, with the account of what they haul.
+#[no_mangle]
+pub extern "C" fn prskavon_sheet_of_account(
+    engines: &[u8],
+    hauled: &[u8],
+    order: &[u8],
+    sheet: &mut [u8],
+) -> u64
+    ensures { λ r. ⌜ r ≡ sheetNumber (accountAnswer (now (engines .entry)) (offered (now (hauled .entry))) (now (order .entry)) (length (now (sheet .entry)))) ⌝ }
+    ensures { λ _. ⌜ now (sheet .exit) ≡ accountSheet (now (engines .entry)) (offered (now (hauled .entry))) (now (order .entry)) (now (sheet .entry)) ⌝ }
+{
+    one_number(sheet_of_account(engines, offered_by(hauled), order, sheet))
+}
+
+// Copies the vehicle that holds the speed, and answers how many bytes it copied.
+#[no_mangle]
+pub extern "C" fn prskavon_holds_the_speed<'a>(
+    front: &'a [u8],
+    back: &'a [u8],
+    vehicle: &mut [u8],
+) -> usize
+    ensures { λ r. ⌜ r ≡ length (lentVehicle (now (front .entry)) (now (back .entry)) (length (now (vehicle .entry)))) ⌝ }
+    ensures { λ _. ⌜ now (vehicle .exit) ≡ lentVehicle (now (front .entry)) (now (back .entry)) (length (now (vehicle .entry))) ++ drop (length (lentVehicle (now (front .entry)) (now (back .entry)) (length (now (vehicle .entry))))) (now (vehicle .entry)) ⌝ }
+{
+    if vehicle.len() < 24 {
+        return 0;
+    }
+    let part = holds_the_speed(front, back);
+    bytes::copy(part, vehicle)
+}

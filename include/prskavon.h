@@ -1,0 +1,155 @@
+/* Prskavon: the brake sheet of a freight train between France and Germany.
+ *
+ * Build the archive with `rt staticlib exports` and link it: cc program.c target/staticlib/libexports.a (x86-64 Linux;
+ * of the C library it needs memcpy alone). Every function takes any bytes and always returns. There is no state and no
+ * allocation, so calls may run on several threads at once. docs/LEAFLET.md says what each number and rule means.
+ *
+ * BUFFERS
+ * - A buffer is a pointer and its length in bytes. The pointer is never NULL, not even where the length is 0.
+ * - A buffer that is read may be lent twice in one call. A buffer that is written overlaps no other of the call.
+ * - A done call writes the first 32, 64 or 24 bytes named below and no other, and the buffer may be longer. A refused
+ *   call writes nothing: what the buffer held before is no sheet and no account.
+ *
+ * ANSWERS: number + 256 * place. The place counts records from 0, and is 0 save for number 3; with engines lent apart it
+ * is among the engines. (prskavon_holds_the_speed alone answers otherwise: see there.)
+ *
+ *     0   done
+ *     1   the list is empty or not a multiple of 24 bytes (for a portion: not a multiple of 24 bytes)
+ *     2   more than 200 records together; in joining accounts, a joined figure above its ceiling
+ *     3   a field out of range; the place is the first such record
+ *     4   the order record is not 24 bytes or has a field out of range
+ *     5   the lent sheet is shorter than 32 bytes, or the room for an account shorter than 64
+ *     6   a working engine in a portion offered as hauled
+ *     7   bytes that are no account: see the account below
+ *     11  the first record is not a working engine; with engines lent apart, any of them is not
+ *     12  a working engine stands behind another kind
+ *     13  more than two working engines
+ *     14  nothing is hauled
+ *
+ * RECORDS, little-endian; masses in tenths of a tonne, lengths in decimetres, speeds in km/h
+ *
+ * A vehicle, 24 bytes
+ *     bytes  field                                              range
+ *     0-7    vehicle number                                     1 to 999,999,999,999
+ *     8-9    mass                                               1 to 2,500
+ *     10-11  braked mass in V (German P)                        0 to 2,500
+ *     12-13  braked mass in M (German G)                        0 to 2,500
+ *     14-15  length                                             1 to 1,000
+ *     16     axles                                              1 to 24
+ *     17     kind: 0 wagon, 1 hauled engine, 2 working engine   0 to 2
+ *     18     setting: 0 isolated, 1 M, 2 V, 3 R                 0 to 3
+ *     19     joined to the brake pipe                           0 or 1
+ *     20     permitted speed                                    1 to 200
+ *     21     Matrossow brake, or no graduated release           0 or 1
+ *     22     D load                                             0 or 1
+ *     23     always 0                                           0
+ *
+ * An order, 24 bytes
+ *     0-4    the line's limits for the columns ME120, ME100, MA100, MA90, MA80: 0 to 200, 0 where the column is missing
+ *     5      category asked: 1 ME120/P120, 2 ME100/P100, 3 MA100/P100, 4 MA100/G100, 5 MA90/G90
+ *     6      percentage in the German timetable                 0 to 200
+ *     7      always 0
+ *     8-11   coupling limit (LRA)                               1 to 100,000
+ *     12-15  admissible mass                                    1 to 100,000
+ *     16-23  always 0
+ *
+ * A sheet, 32 bytes
+ *     0      category asked
+ *     1      category granted, or 0
+ *     2      granted speed, or 0
+ *     3      first common rule broken (15 to 23), or 0
+ *     4-8    first rule broken by categories 1 to 5, or 0; all hold the common rule where there is one
+ *     9      records with D load
+ *     10-12  margin of the asked category in whole tonnes, rounded toward minus infinity, two's complement
+ *     13     percentage of the asked category
+ *     14     1 when 1 to 3 is asked and the hauled mass is above 1,200 t, else 0
+ *     15     isolated records
+ *     16-19  hauled mass
+ *     20-23  train mass
+ *     24-27  braked mass after deduction for the asked category, rounded down
+ *     28-31  train length
+ *
+ * An account of hauled vehicles in order, 64 bytes
+ *     bytes  figure                                             ceiling
+ *     0-3    count                                                  200
+ *     4-7    mass                                               500,000
+ *     8-11   V masses of records set to V                       500,000
+ *     12-15  M masses of records set to M                       500,000
+ *     16-19  length                                             200,000
+ *     20-21  axles                                                4,800
+ *     22-23  axles of records set to V                            4,800
+ *     24     hauled engines                                         200
+ *     25     records set to M                                       200
+ *     26     isolated records                                       200
+ *     27     D loads                                                200
+ *     28     leading run of isolated                                200
+ *     29     trailing run of isolated                               200
+ *     30     longest run of isolated                                200
+ *     31     an engine stands behind a wagon                          1
+ *     32     rule 16 is broken: a record set to R                     1
+ *     33     rule 17 is broken: a record not joined to the pipe       1
+ *     34     rule 18 is broken: a wagon's Matrossow brake             1
+ *     35     slowest speed                                          200
+ *     36-40  settings of the first five, 4 where there is none        4 each
+ *     41-63  not used                                                 0 each
+ *
+ *   Where an account is read, any other length than 64, or any figure, mark or unused byte above its ceiling, is
+ *   refusal 7. The empty account, which prskavon_account_of gives for no bytes, has 200 in byte 35 and 4 in bytes 36
+ *   to 40; 64 zeros are an account too, but one whose slowest speed is 0.
+ */
+#ifndef PRSKAVON_H
+#define PRSKAVON_H
+
+#include <stddef.h>
+#include <stdint.h>
+
+#ifdef __cplusplus
+extern "C" {
+#endif
+
+#define PRSKAVON_VEHICLE 24
+#define PRSKAVON_ORDER 24
+#define PRSKAVON_SHEET 32
+#define PRSKAVON_ACCOUNT 64
+
+/* The two parts of an answer. */
+static inline unsigned prskavon_number(uint64_t answer) { return (unsigned)(answer % 256); }
+static inline size_t prskavon_place(uint64_t answer) { return (size_t)(answer / 256); }
+
+/* The sheet of a whole train, its working engines in front.
+ * Refusals, the first that applies: 1, 2, 3, 4, 5, 11, 12, 13, 14. Done: 32 bytes of sheet are written. */
+uint64_t prskavon_sheet_of_train(const uint8_t *vehicles, size_t vehicles_len,
+                                 const uint8_t *order, size_t order_len,
+                                 uint8_t *sheet, size_t sheet_len);
+
+/* The account of a portion of hauled vehicles; an empty portion is good.
+ * Refusals, the first that applies: 1, 2, 3, 6, 5. Done: 64 bytes of account are written. */
+uint64_t prskavon_account_of(const uint8_t *portion, size_t portion_len,
+                             uint8_t *account, size_t account_len);
+
+/* The account of two neighbouring portions, from their accounts, the front one left.
+ * Refusals, the first that applies: 7, 2, 5. Done: 64 bytes of account are written. */
+uint64_t prskavon_join(const uint8_t *left, size_t left_len,
+                       const uint8_t *right, size_t right_len,
+                       uint8_t *account, size_t account_len);
+
+/* The sheet of one or two working engines, lent apart, with the account of what they haul.
+ * Refusals, the first that applies: 1, 7, 2, 3, 4, 5, 11, 13, 14. Done: 32 bytes of sheet are written. */
+uint64_t prskavon_sheet_of_account(const uint8_t *engines, size_t engines_len,
+                                   const uint8_t *hauled, size_t hauled_len,
+                                   const uint8_t *order, size_t order_len,
+                                   uint8_t *sheet, size_t sheet_len);
+
+/* The vehicle that holds the speed, out of two portions in order, of any kind: the one with the least byte 20, the
+ * first in the train at a tie. Answers how many bytes it wrote, and has no refusal numbers: 24, the vehicle's record;
+ * or 0, and nothing is written, where both portions are empty, one is not whole good records, they pass 200 together,
+ * or vehicle has fewer than 24 bytes. */
+size_t prskavon_holds_the_speed(const uint8_t *front, size_t front_len,
+                                const uint8_t *back, size_t back_len,
+                                uint8_t *vehicle, size_t vehicle_len);
+
+#ifdef __cplusplus
+}
+#endif
+
+#endif
