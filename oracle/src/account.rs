@@ -1,0 +1,317 @@
+//! The account of hauled records in order, and joining.
+
+use crate::answer::{demand, Refusal};
+use crate::vehicle::{
+    Record, Vehicle, HAULED_ENGINE, ISOLATED, SET_TO_M, SET_TO_R, SET_TO_V, WAGON,
+};
+
+pub const ACCOUNT: usize = 64;
+
+/// The setting that stands where there is no vehicle.
+pub const NO_SETTING: u8 = 4;
+
+#[derive(Clone, Copy, Debug, PartialEq, Eq)]
+pub struct Account {
+    pub count: u32,
+    pub mass: u32,
+    pub braked_v: u32,
+    pub braked_m: u32,
+    pub length: u32,
+    pub axles: u32,
+    pub axles_v: u32,
+    pub engines: u32,
+    pub set_to_m: u32,
+    pub isolated: u32,
+    pub d_loads: u32,
+    pub leading: u32,
+    pub trailing: u32,
+    pub longest: u32,
+    pub engine_behind_wagon: bool,
+    pub rule_16: bool,
+    pub rule_17: bool,
+    pub rule_18: bool,
+    pub slowest: u8,
+    pub first: [u8; 5],
+}
+
+impl Account {
+    pub const EMPTY: Account = Account {
+        count: 0,
+        mass: 0,
+        braked_v: 0,
+        braked_m: 0,
+        length: 0,
+        axles: 0,
+        axles_v: 0,
+        engines: 0,
+        set_to_m: 0,
+        isolated: 0,
+        d_loads: 0,
+        leading: 0,
+        trailing: 0,
+        longest: 0,
+        engine_behind_wagon: false,
+        rule_16: false,
+        rule_17: false,
+        rule_18: false,
+        slowest: 200,
+        first: [NO_SETTING; 5],
+    };
+
+    /// The account of good hauled records.
+    pub fn of(hauled: &[Record]) -> Account {
+        let mut account = Account::EMPTY;
+        let mut run = 0;
+        for (record, place) in hauled.iter().zip(1..) {
+            let vehicle = Vehicle::read(record);
+            account.count_in(&vehicle);
+            run = if vehicle.setting == ISOLATED {
+                run + 1
+            } else {
+                0
+            };
+            account.longest = account.longest.max(run);
+            if run == place {
+                account.leading = run;
+            }
+        }
+        account.trailing = run;
+        for (first, record) in account.first.iter_mut().zip(hauled) {
+            *first = Vehicle::read(record).setting;
+        }
+        account
+    }
+
+    /// What one more record behind the others adds, its place in a run apart.
+    fn count_in(&mut self, vehicle: &Vehicle) {
+        let wagon_before = self.count > self.engines;
+        self.count += 1;
+        self.mass += u32::from(vehicle.mass);
+        self.length += u32::from(vehicle.length);
+        self.axles += u32::from(vehicle.axles);
+        match vehicle.setting {
+            SET_TO_V => {
+                self.braked_v += u32::from(vehicle.braked_v);
+                self.axles_v += u32::from(vehicle.axles);
+            }
+            SET_TO_M => {
+                self.braked_m += u32::from(vehicle.braked_m);
+                self.set_to_m += 1;
+            }
+            SET_TO_R => self.rule_16 = true,
+            _ => self.isolated += 1,
+        }
+        if vehicle.kind == HAULED_ENGINE {
+            self.engines += 1;
+            self.engine_behind_wagon |= wagon_before;
+        }
+        self.d_loads += u32::from(vehicle.d_load);
+        self.rule_17 |= vehicle.joined == 0;
+        self.rule_18 |= breaks_rule_18(vehicle);
+        self.slowest = self.slowest.min(vehicle.speed);
+    }
+
+    /// The account of two neighbours, the front one `self`; refusal 2 where a figure passes its ceiling.
+    pub fn join(&self, right: &Account) -> Result<Account, Refusal> {
+        let joined = Account {
+            count: self.count + right.count,
+            mass: self.mass + right.mass,
+            braked_v: self.braked_v + right.braked_v,
+            braked_m: self.braked_m + right.braked_m,
+            length: self.length + right.length,
+            axles: self.axles + right.axles,
+            axles_v: self.axles_v + right.axles_v,
+            engines: self.engines + right.engines,
+            set_to_m: self.set_to_m + right.set_to_m,
+            isolated: self.isolated + right.isolated,
+            d_loads: self.d_loads + right.d_loads,
+            leading: run_onward(self.leading, self.count, right.leading),
+            trailing: run_onward(right.trailing, right.count, self.trailing),
+            longest: (self.longest.max(right.longest)).max(self.trailing + right.leading),
+            engine_behind_wagon: self.engine_behind_wagon
+                || right.engine_behind_wagon
+                || (self.count > self.engines && right.engines > 0),
+            rule_16: self.rule_16 || right.rule_16,
+            rule_17: self.rule_17 || right.rule_17,
+            rule_18: self.rule_18 || right.rule_18,
+            slowest: self.slowest.min(right.slowest),
+            first: first_settings(self, right),
+        };
+        demand(joined.is_within(), 2)?;
+        Ok(joined)
+    }
+
+    /// Every figure is at most its ceiling.
+    pub fn is_within(&self) -> bool {
+        let hundreds = [
+            self.count,
+            self.engines,
+            self.set_to_m,
+            self.isolated,
+            self.d_loads,
+            self.leading,
+            self.trailing,
+            self.longest,
+            u32::from(self.slowest),
+        ];
+        let masses = [self.mass, self.braked_v, self.braked_m];
+        hundreds.iter().all(|&figure| figure <= 200)
+            && masses.iter().all(|&figure| figure <= 500_000)
+            && self.length <= 200_000
+            && self.axles <= 4_800
+            && self.axles_v <= 4_800
+            && self.first.iter().all(|&setting| setting <= NO_SETTING)
+    }
+
+    /// None where the bytes are no account or a figure is above its ceiling (refusal 7).
+    pub fn read(bytes: &[u8]) -> Option<Account> {
+        let bytes: &[u8; ACCOUNT] = bytes.try_into().ok()?;
+        let long = |at: usize| {
+            u32::from_le_bytes([bytes[at], bytes[at + 1], bytes[at + 2], bytes[at + 3]])
+        };
+        let short = |at: usize| u32::from(u16::from_le_bytes([bytes[at], bytes[at + 1]]));
+        let account = Account {
+            count: long(0),
+            mass: long(4),
+            braked_v: long(8),
+            braked_m: long(12),
+            length: long(16),
+            axles: short(20),
+            axles_v: short(22),
+            engines: u32::from(bytes[24]),
+            set_to_m: u32::from(bytes[25]),
+            isolated: u32::from(bytes[26]),
+            d_loads: u32::from(bytes[27]),
+            leading: u32::from(bytes[28]),
+            trailing: u32::from(bytes[29]),
+            longest: u32::from(bytes[30]),
+            engine_behind_wagon: bytes[31] == 1,
+            rule_16: bytes[32] == 1,
+            rule_17: bytes[33] == 1,
+            rule_18: bytes[34] == 1,
+            slowest: bytes[35],
+            first: [bytes[36], bytes[37], bytes[38], bytes[39], bytes[40]],
+        };
+        let marks = bytes[31..35].iter().all(|&mark| mark <= 1);
+        let unused = bytes[41..] == [0; 23];
+        (marks && unused && account.is_within()).then_some(account)
+    }
+
+    /// The 64 bytes of an account within its ceilings.
+    pub fn write(&self) -> [u8; ACCOUNT] {
+        let mut bytes = [0; ACCOUNT];
+        let longs = [
+            self.count,
+            self.mass,
+            self.braked_v,
+            self.braked_m,
+            self.length,
+        ];
+        for (place, long) in bytes.chunks_exact_mut(4).zip(longs) {
+            place.copy_from_slice(&long.to_le_bytes());
+        }
+        bytes[20..22].copy_from_slice(&(self.axles as u16).to_le_bytes());
+        bytes[22..24].copy_from_slice(&(self.axles_v as u16).to_le_bytes());
+        bytes[24] = self.engines as u8;
+        bytes[25] = self.set_to_m as u8;
+        bytes[26] = self.isolated as u8;
+        bytes[27] = self.d_loads as u8;
+        bytes[28] = self.leading as u8;
+        bytes[29] = self.trailing as u8;
+        bytes[30] = self.longest as u8;
+        bytes[31] = u8::from(self.engine_behind_wagon);
+        bytes[32] = u8::from(self.rule_16);
+        bytes[33] = u8::from(self.rule_17);
+        bytes[34] = u8::from(self.rule_18);
+        bytes[35] = self.slowest;
+        bytes[36..41].copy_from_slice(&self.first);
+        bytes
+    }
+}
+
+/// Rule 18: a wagon with byte 21 set that is not isolated (102.7).
+pub fn breaks_rule_18(vehicle: &Vehicle) -> bool {
+    vehicle.kind == WAGON && vehicle.matrossow == 1 && vehicle.setting != ISOLATED
+}
+
+/// A run that fills its own portion goes on into the neighbour.
+fn run_onward(run: u32, count: u32, neighbour: u32) -> u32 {
+    if run == count {
+        run + neighbour
+    } else {
+        run
+    }
+}
+
+/// The left's settings as far as its count, then the right's from its first.
+fn first_settings(left: &Account, right: &Account) -> [u8; 5] {
+    let kept = left.count as usize;
+    std::array::from_fn(|place| match place.checked_sub(kept) {
+        None => left.first[place],
+        Some(behind) => right.first[behind],
+    })
+}
+
+#[cfg(test)]
+mod tests {
+    use super::*;
+
+    fn wagon(setting: u8) -> Record {
+        let vehicle = Vehicle {
+            number: 7,
+            mass: 100,
+            braked_v: 60,
+            braked_m: 50,
+            length: 120,
+            axles: 2,
+            kind: WAGON,
+            setting,
+            joined: 1,
+            speed: 100,
+            matrossow: 0,
+            d_load: 0,
+            closing: 0,
+        };
+        vehicle.write()
+    }
+
+    fn wagons(settings: &[u8]) -> Vec<Record> {
+        settings.iter().map(|&setting| wagon(setting)).collect()
+    }
+
+    #[test]
+    fn a_run_crosses_the_cut() {
+        let left = Account::of(&wagons(&[2, 0, 0]));
+        let right = Account::of(&wagons(&[0, 0, 0, 1, 0]));
+        let joined = left.join(&right).unwrap();
+        assert_eq!((joined.leading, joined.trailing, joined.longest), (0, 1, 5));
+        assert_eq!(joined.first, [2, 0, 0, 0, 0]);
+        assert_eq!(joined, Account::of(&wagons(&[2, 0, 0, 0, 0, 0, 1, 0])));
+    }
+
+    #[test]
+    fn the_empty_account_changes_nothing() {
+        let account = Account::of(&wagons(&[0, 0, 1, 2]));
+        assert_eq!(account.join(&Account::EMPTY), Ok(account));
+        assert_eq!(Account::EMPTY.join(&account), Ok(account));
+    }
+
+    #[test]
+    fn a_joined_figure_above_its_ceiling_is_refused() {
+        let long = Account::of(&wagons(&[1; 150]));
+        assert_eq!(long.join(&long).unwrap_err().number, 2);
+        let runs = Account {
+            leading: 200,
+            trailing: 101,
+            ..Account::EMPTY
+        };
+        assert_eq!(runs.join(&runs).unwrap_err().number, 2);
+    }
+
+    #[test]
+    fn an_account_keeps_its_bytes() {
+        let account = Account::of(&wagons(&[0, 1, 2, 3, 1, 2]));
+        assert_eq!(Account::read(&account.write()), Some(account));
+        assert_eq!(Account::read(&account.write()[..63]), None);
+    }
+}

@@ -1,0 +1,255 @@
+//! The product's static library against the model: differences, time and instructions.
+
+use std::process::ExitCode;
+use std::sync::atomic::{AtomicU64, Ordering};
+use std::thread;
+use std::time::Duration;
+
+use oracle::call::{Model, Side};
+use oracle::coverage::Scope;
+use oracle::diff::{Report, Run, KINDS};
+use oracle::speed;
+
+const USAGE: &str = "usage: compare diff SEED TRAINS JOINS
+       compare soak N [SEED]
+       compare speed
+       compare instructions library|model train|account|join|judge|refusal SIZE REPEAT";
+
+/// The functions of the header, as they are declared there.
+mod c {
+    #[link(name = "exports", kind = "static")]
+    extern "C" {
+        pub fn prskavon_sheet_of_train(
+            vehicles: *const u8,
+            vehicles_len: usize,
+            order: *const u8,
+            order_len: usize,
+            sheet: *mut u8,
+            sheet_len: usize,
+        ) -> u64;
+        pub fn prskavon_account_of(
+            portion: *const u8,
+            portion_len: usize,
+            account: *mut u8,
+            account_len: usize,
+        ) -> u64;
+        pub fn prskavon_join(
+            left: *const u8,
+            left_len: usize,
+            right: *const u8,
+            right_len: usize,
+            account: *mut u8,
+            account_len: usize,
+        ) -> u64;
+        pub fn prskavon_sheet_of_account(
+            engines: *const u8,
+            engines_len: usize,
+            hauled: *const u8,
+            hauled_len: usize,
+            order: *const u8,
+            order_len: usize,
+            sheet: *mut u8,
+            sheet_len: usize,
+        ) -> u64;
+        pub fn prskavon_holds_the_speed(
+            front: *const u8,
+            front_len: usize,
+            back: *const u8,
+            back_len: usize,
+            vehicle: *mut u8,
+            vehicle_len: usize,
+        ) -> usize;
+    }
+}
+
+/// The product. A slice gives a pointer that is never null and a length that holds, as the header asks.
+struct Library;
+
+impl Side for Library {
+    fn sheet_of_train(&self, vehicles: &[u8], order: &[u8], room: &mut [u8]) -> u64 {
+        unsafe {
+            c::prskavon_sheet_of_train(
+                vehicles.as_ptr(),
+                vehicles.len(),
+                order.as_ptr(),
+                order.len(),
+                room.as_mut_ptr(),
+                room.len(),
+            )
+        }
+    }
+
+    fn account_of(&self, portion: &[u8], room: &mut [u8]) -> u64 {
+        unsafe {
+            c::prskavon_account_of(
+                portion.as_ptr(),
+                portion.len(),
+                room.as_mut_ptr(),
+                room.len(),
+            )
+        }
+    }
+
+    fn join(&self, left: &[u8], right: &[u8], room: &mut [u8]) -> u64 {
+        unsafe {
+            c::prskavon_join(
+                left.as_ptr(),
+                left.len(),
+                right.as_ptr(),
+                right.len(),
+                room.as_mut_ptr(),
+                room.len(),
+            )
+        }
+    }
+
+    fn sheet_of_account(
+        &self,
+        engines: &[u8],
+        hauled: &[u8],
+        order: &[u8],
+        room: &mut [u8],
+    ) -> u64 {
+        unsafe {
+            c::prskavon_sheet_of_account(
+                engines.as_ptr(),
+                engines.len(),
+                hauled.as_ptr(),
+                hauled.len(),
+                order.as_ptr(),
+                order.len(),
+                room.as_mut_ptr(),
+                room.len(),
+            )
+        }
+    }
+
+    fn holds_the_speed(&self, front: &[u8], back: &[u8], room: &mut [u8]) -> usize {
+        unsafe {
+            c::prskavon_holds_the_speed(
+                front.as_ptr(),
+                front.len(),
+                back.as_ptr(),
+                back.len(),
+                room.as_mut_ptr(),
+                room.len(),
+            )
+        }
+    }
+}
+
+fn main() -> ExitCode {
+    let arguments: Vec<String> = std::env::args().skip(1).collect();
+    let arguments: Vec<&str> = arguments.iter().map(String::as_str).collect();
+    let number = |text: &str| text.parse::<u64>().ok();
+    let outcome = match arguments[..] {
+        ["diff", seed, trains, joins] => match (number(seed), number(trains), number(joins)) {
+            (Some(seed), Some(trains), Some(joins)) => Some(diff(seed, trains, joins)),
+            _ => None,
+        },
+        ["soak", cases] => number(cases).map(|cases| soak(cases, 1)),
+        ["soak", cases, seed] => match (number(cases), number(seed)) {
+            (Some(cases), Some(seed)) => Some(soak(cases, seed)),
+            _ => None,
+        },
+        ["speed"] => {
+            print!("{}", speed::table(&Library));
+            Some(ExitCode::SUCCESS)
+        }
+        ["instructions", who, what, size, repeat] => match (number(size), number(repeat)) {
+            (Some(size), Some(repeat)) => instructions(who, what, size, repeat),
+            _ => None,
+        },
+        _ => None,
+    };
+    outcome.unwrap_or_else(|| {
+        eprintln!("{USAGE}");
+        ExitCode::from(2)
+    })
+}
+
+fn diff(seed: u64, trains: u64, joins: u64) -> ExitCode {
+    let run = Run {
+        library: &Library,
+        seed,
+        done: &AtomicU64::new(0),
+    };
+    finish(&run.cases(0..trains, 0..joins))
+}
+
+/// Half trains and half joins, on two threads that take every other index.
+fn soak(cases: u64, seed: u64) -> ExitCode {
+    let joins = cases / 2;
+    let trains = cases - joins;
+    let done = AtomicU64::new(0);
+    let half = |first: usize| {
+        let run = Run {
+            library: &Library,
+            seed,
+            done: &done,
+        };
+        let every_other = |end: u64| (0..end).skip(first).step_by(2);
+        run.cases(every_other(trains), every_other(joins))
+    };
+    let report = thread::scope(|scope| {
+        let workers = [0, 1].map(|first| scope.spawn(move || half(first)));
+        watch(&done, cases, || workers.iter().all(|one| one.is_finished()));
+        let mut report = Report::default();
+        for worker in workers {
+            report.add(worker.join().expect("a thread of the soak broke off"));
+        }
+        report
+    });
+    finish(&report)
+}
+
+/// Tells on stderr how far the threads are.
+fn watch(done: &AtomicU64, cases: u64, finished: impl Fn() -> bool) {
+    let mut waited = 0;
+    while !finished() {
+        thread::sleep(Duration::from_millis(100));
+        waited += 1;
+        if waited % 50 == 0 {
+            eprintln!("{} of {cases}", done.load(Ordering::Relaxed));
+        }
+    }
+}
+
+fn finish(report: &Report) -> ExitCode {
+    print!("{}", report.coverage.table(Scope::Functions));
+    println!("compared cases");
+    for (kind, count) in KINDS.iter().zip(report.kinds) {
+        println!("  {kind:<24} {count:>9}");
+    }
+    println!("  calls in all             {:>8}", report.calls);
+    let missing = report.coverage.missing(Scope::Functions);
+    for what in &missing {
+        println!("never met: {what}");
+    }
+    for difference in &report.shown {
+        print!("{difference}");
+    }
+    println!(
+        "{} compared, {} differences",
+        report.compared(),
+        report.differences
+    );
+    match report.differences == 0 && missing.is_empty() {
+        true => ExitCode::SUCCESS,
+        false => ExitCode::FAILURE,
+    }
+}
+
+/// Prints how many calls and records one pass has, so that a count of instructions can be divided.
+fn instructions(who: &str, what: &str, size: u64, repeat: u64) -> Option<ExitCode> {
+    let workload = speed::workload(what, size as usize)?;
+    println!("{} {}", workload.calls.len(), workload.records);
+    for _ in 0..repeat {
+        match who {
+            "library" => workload.pass(&Library),
+            "model" => workload.pass(&Model),
+            _ => return None,
+        };
+    }
+    Some(ExitCode::SUCCESS)
+}

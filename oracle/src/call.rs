@@ -1,0 +1,186 @@
+//! One call of one function, the same for the model and for the library.
+
+use crate::calls;
+use crate::line::hex;
+
+/// Something that has the five functions.
+pub trait Side {
+    fn sheet_of_train(&self, vehicles: &[u8], order: &[u8], room: &mut [u8]) -> u64;
+    fn account_of(&self, portion: &[u8], room: &mut [u8]) -> u64;
+    fn join(&self, left: &[u8], right: &[u8], room: &mut [u8]) -> u64;
+    fn sheet_of_account(&self, engines: &[u8], hauled: &[u8], order: &[u8], room: &mut [u8])
+        -> u64;
+    fn holds_the_speed(&self, front: &[u8], back: &[u8], room: &mut [u8]) -> usize;
+}
+
+/// The model of this crate.
+#[derive(Clone, Copy)]
+pub struct Model;
+
+impl Side for Model {
+    fn sheet_of_train(&self, vehicles: &[u8], order: &[u8], room: &mut [u8]) -> u64 {
+        calls::sheet_of_train(vehicles, order, room)
+    }
+
+    fn account_of(&self, portion: &[u8], room: &mut [u8]) -> u64 {
+        calls::account_of(portion, room)
+    }
+
+    fn join(&self, left: &[u8], right: &[u8], room: &mut [u8]) -> u64 {
+        calls::join(left, right, room)
+    }
+
+    fn sheet_of_account(
+        &self,
+        engines: &[u8],
+        hauled: &[u8],
+        order: &[u8],
+        room: &mut [u8],
+    ) -> u64 {
+        calls::sheet_of_account(engines, hauled, order, room)
+    }
+
+    fn holds_the_speed(&self, front: &[u8], back: &[u8], room: &mut [u8]) -> usize {
+        calls::holds_the_speed(front, back, room)
+    }
+}
+
+#[derive(Clone, Copy, Debug, PartialEq, Eq)]
+pub enum Function {
+    SheetOfTrain,
+    AccountOf,
+    Join,
+    SheetOfAccount,
+    HoldsTheSpeed,
+}
+
+pub const FUNCTIONS: [Function; 5] = [
+    Function::SheetOfTrain,
+    Function::AccountOf,
+    Function::Join,
+    Function::SheetOfAccount,
+    Function::HoldsTheSpeed,
+];
+
+impl Function {
+    pub fn name(self) -> &'static str {
+        match self {
+            Function::SheetOfTrain => "sheet_of_train",
+            Function::AccountOf => "account_of",
+            Function::Join => "join",
+            Function::SheetOfAccount => "sheet_of_account",
+            Function::HoldsTheSpeed => "holds_the_speed",
+        }
+    }
+
+    /// How many bytes a done call writes.
+    pub fn writes(self) -> usize {
+        match self {
+            Function::SheetOfTrain | Function::SheetOfAccount => 32,
+            Function::AccountOf | Function::Join => 64,
+            Function::HoldsTheSpeed => 24,
+        }
+    }
+
+    pub fn is_done(self, answer: u64) -> bool {
+        match self {
+            Function::HoldsTheSpeed => answer == 24,
+            _ => answer == 0,
+        }
+    }
+}
+
+/// The bytes that a call reads.
+#[derive(Clone, Debug)]
+pub enum Inputs {
+    Train {
+        vehicles: Vec<u8>,
+        order: Vec<u8>,
+    },
+    Portion {
+        portion: Vec<u8>,
+    },
+    Accounts {
+        left: Vec<u8>,
+        right: Vec<u8>,
+    },
+    Engines {
+        engines: Vec<u8>,
+        hauled: Vec<u8>,
+        order: Vec<u8>,
+    },
+    Portions {
+        front: Vec<u8>,
+        back: Vec<u8>,
+    },
+}
+
+/// The longest buffer that is lent, with room behind it to see a write past its end.
+pub const BUFFER: usize = 128;
+
+#[derive(Clone, Debug)]
+pub struct Call {
+    pub inputs: Inputs,
+    /// The length of the buffer lent for writing.
+    pub room: usize,
+    /// What the buffer is filled with before.
+    pub fill: u8,
+}
+
+impl Call {
+    pub fn function(&self) -> Function {
+        match self.inputs {
+            Inputs::Train { .. } => Function::SheetOfTrain,
+            Inputs::Portion { .. } => Function::AccountOf,
+            Inputs::Accounts { .. } => Function::Join,
+            Inputs::Engines { .. } => Function::SheetOfAccount,
+            Inputs::Portions { .. } => Function::HoldsTheSpeed,
+        }
+    }
+
+    /// No two neighbouring bytes are alike, so that moved bytes are seen.
+    pub fn buffer(&self) -> [u8; BUFFER] {
+        std::array::from_fn(|at| self.fill ^ (at as u8).wrapping_mul(37))
+    }
+
+    pub fn run(&self, side: &impl Side, room: &mut [u8]) -> u64 {
+        match &self.inputs {
+            Inputs::Train { vehicles, order } => side.sheet_of_train(vehicles, order, room),
+            Inputs::Portion { portion } => side.account_of(portion, room),
+            Inputs::Accounts { left, right } => side.join(left, right, room),
+            Inputs::Engines {
+                engines,
+                hauled,
+                order,
+            } => side.sheet_of_account(engines, hauled, order, room),
+            Inputs::Portions { front, back } => side.holds_the_speed(front, back, room) as u64,
+        }
+    }
+
+    /// The answer, and the buffer with what lies behind the lent part.
+    pub fn outcome(&self, side: &impl Side) -> (u64, [u8; BUFFER]) {
+        let mut buffer = self.buffer();
+        let answer = self.run(side, &mut buffer[..self.room]);
+        (answer, buffer)
+    }
+
+    /// The inputs in hex, one line each.
+    pub fn describe(&self) -> String {
+        let inputs: &[(&str, &[u8])] = match &self.inputs {
+            Inputs::Train { vehicles, order } => &[("vehicles", vehicles), ("order", order)],
+            Inputs::Portion { portion } => &[("portion", portion)],
+            Inputs::Accounts { left, right } => &[("left", left), ("right", right)],
+            Inputs::Engines {
+                engines,
+                hauled,
+                order,
+            } => &[("engines", engines), ("hauled", hauled), ("order", order)],
+            Inputs::Portions { front, back } => &[("front", front), ("back", back)],
+        };
+        let lines = inputs
+            .iter()
+            .map(|(name, bytes)| format!("  {name} {}\n", hex(bytes)));
+        lines.collect::<String>()
+            + &format!("  lent {} bytes, filled {:02x}\n", self.room, self.fill)
+    }
+}

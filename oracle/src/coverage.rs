@@ -1,0 +1,338 @@
+//! What a run has met: answers, rules, grants, boundaries and refusals that apply together.
+
+use std::fmt::Write;
+
+use crate::account::Account;
+use crate::boundaries::Boundaries;
+use crate::call::{Call, Function, Inputs, FUNCTIONS};
+use crate::facts::Facts;
+use crate::order::Order;
+use crate::precedence::{applying, excluded, refusals};
+use crate::vehicle::is_working;
+
+/// Rules that a sheet can name; 46 cannot come first, for a hauled part above 7,000 breaks 22 before it.
+const COMMON_RULES: [u8; 9] = [15, 16, 17, 18, 19, 20, 21, 22, 23];
+const P_RULES: [u8; 8] = [30, 31, 40, 41, 42, 43, 44, 47];
+const G_RULES: [u8; 7] = [30, 31, 32, 33, 34, 35, 47];
+
+/// What the sheets of one function said.
+#[derive(Clone)]
+struct Sheets {
+    common: [u64; 48],
+    by_category: [[u64; 48]; 5],
+    granted: [[u64; 6]; 6],
+    boundaries: Boundaries,
+}
+
+#[derive(Clone)]
+pub struct Coverage {
+    numbers: [[u64; 32]; 5],
+    pairs: [[[u64; 16]; 16]; 5],
+    sheets: [Sheets; 2],
+}
+
+/// What a run has to meet.
+#[derive(Clone, Copy, PartialEq, Eq)]
+pub enum Scope {
+    /// All five functions.
+    Functions,
+    /// SHEET alone: its sheet is never too short.
+    Line,
+}
+
+impl Scope {
+    fn functions(self) -> &'static [Function] {
+        match self {
+            Scope::Functions => &FUNCTIONS,
+            Scope::Line => &[Function::SheetOfTrain],
+        }
+    }
+
+    fn has_pair(self, (first, second): (u8, u8)) -> bool {
+        let with_5 = first == 5 || second == 5;
+        self == Scope::Functions || !(with_5 || (first, second) == (1, 2))
+    }
+}
+
+impl Default for Coverage {
+    fn default() -> Coverage {
+        let none = Sheets {
+            common: [0; 48],
+            by_category: [[0; 48]; 5],
+            granted: [[0; 6]; 6],
+            boundaries: Boundaries::default(),
+        };
+        Coverage {
+            numbers: [[0; 32]; 5],
+            pairs: [[[0; 16]; 16]; 5],
+            sheets: [none.clone(), none],
+        }
+    }
+}
+
+impl Coverage {
+    pub fn note(&mut self, call: &Call, answer: u64, buffer: &[u8]) {
+        let function = call.function();
+        self.numbers[function as usize][(answer % 256) as usize] += 1;
+        let all = applying(call);
+        for &first in &all {
+            for &second in &all {
+                self.pairs[function as usize][usize::from(first)][usize::from(second)] += 1;
+            }
+        }
+        if let (Some(sheets), true) = (self.sheets_of(function), answer == 0) {
+            sheets.note(buffer);
+            if let Some((facts, order)) = judged(call) {
+                sheets.boundaries.note(&facts, &order);
+            }
+        }
+    }
+
+    fn sheets_of(&mut self, function: Function) -> Option<&mut Sheets> {
+        match function {
+            Function::SheetOfTrain => Some(&mut self.sheets[0]),
+            Function::SheetOfAccount => Some(&mut self.sheets[1]),
+            _ => None,
+        }
+    }
+
+    pub fn add(&mut self, other: &Coverage) {
+        add(
+            self.numbers.as_flattened_mut(),
+            other.numbers.as_flattened(),
+        );
+        add(
+            self.pairs.as_flattened_mut().as_flattened_mut(),
+            other.pairs.as_flattened().as_flattened(),
+        );
+        for (sheets, more) in self.sheets.iter_mut().zip(&other.sheets) {
+            sheets.add(more);
+        }
+    }
+
+    /// What could have occurred and did not.
+    pub fn missing(&self, scope: Scope) -> Vec<String> {
+        let mut missing = vec![];
+        for &function in scope.functions() {
+            for number in numbers(function) {
+                let none = self.numbers[function as usize][usize::from(number)] == 0;
+                if none && (scope == Scope::Functions || number != 5) {
+                    missing.push(format!("{} answer {number}", function.name()));
+                }
+            }
+            if scope == Scope::Functions {
+                self.missing_pairs(function, &mut missing);
+            }
+        }
+        self.sheets[0].missing("trains", scope, &mut missing);
+        if scope == Scope::Functions {
+            self.sheets[1].missing("accounts", scope, &mut missing);
+        }
+        missing
+    }
+
+    fn missing_pairs(&self, function: Function, missing: &mut Vec<String>) {
+        let counts = self.pairs[function as usize];
+        for (first, second) in pairs(function) {
+            if counts[usize::from(first)][usize::from(second)] == 0 {
+                missing.push(format!("{} {first} with {second}", function.name()));
+            }
+        }
+    }
+
+    pub fn table(&self, scope: Scope) -> String {
+        let mut text = String::from("answers\n");
+        for &function in scope.functions() {
+            let counts = self.numbers[function as usize];
+            let row = numbers(function).into_iter();
+            let row = row.map(|number| format!("{number}: {}", counts[usize::from(number)]));
+            text += &rows(function, &row.collect::<Vec<_>>());
+        }
+        text += "refusals that apply together, the one given first\n";
+        for &function in scope.functions() {
+            let counts = self.pairs[function as usize];
+            let row = pairs(function).into_iter();
+            let row = row.filter(|&pair| scope.has_pair(pair));
+            let row = row.map(|(first, second)| {
+                let count = counts[usize::from(first)][usize::from(second)];
+                format!("{first}+{second}: {count}")
+            });
+            text += &rows(function, &row.collect::<Vec<_>>());
+        }
+        text += &self.sheets[0].table("trains");
+        if scope == Scope::Functions {
+            text += &self.sheets[1].table("accounts");
+        }
+        text + &impossible(scope)
+    }
+}
+
+/// Counts of a function, so many to a line.
+fn rows(function: Function, counts: &[String]) -> String {
+    let lines = counts.chunks(10);
+    let lines = lines.map(|some| format!("  {:<17} {}\n", function.name(), some.join("  ")));
+    lines.collect()
+}
+
+/// The answers that a function can give.
+fn numbers(function: Function) -> Vec<u8> {
+    match function {
+        Function::HoldsTheSpeed => vec![0, 24],
+        _ => [&[0], refusals(function)].concat(),
+    }
+}
+
+/// The pairs of refusals that can apply together, in the order of the function.
+fn pairs(function: Function) -> Vec<(u8, u8)> {
+    let order = refusals(function);
+    let mut pairs = vec![];
+    for (place, &first) in order.iter().enumerate() {
+        for &second in &order[place + 1..] {
+            let mut out = excluded(function).iter();
+            if !out.any(|&(one, other, _)| (one, other) == (first, second)) {
+                pairs.push((first, second));
+            }
+        }
+    }
+    pairs
+}
+
+/// What cannot occur, and why.
+fn impossible(scope: Scope) -> String {
+    let mut text = String::from("cannot occur\n");
+    for &function in scope.functions() {
+        for (first, second, why) in excluded(function) {
+            let _ = writeln!(text, "  {} {first} with {second}: {why}", function.name());
+        }
+    }
+    if scope == Scope::Line {
+        text += "  refusal 5: SHEET lends itself 32 bytes\n";
+        text += "  1 with 2: of a list above 200 records SHEET reads 201 whole ones\n";
+    }
+    text += "  refusals that are not in a function's row: the page gives it no such refusal\n";
+    text += "  rule 46 as the first broken: a hauled part above 7,000 breaks 22, or 21 before it\n";
+    text += "  rules 40 to 44 in categories 4 and 5, 32 to 35 in 1 to 3: not asked there\n";
+    text += "  a granted number below the asked one: not among the asked and greater ones\n";
+    text
+}
+
+/// The facts behind a sheet that was written.
+fn judged(call: &Call) -> Option<(Facts, Order)> {
+    match &call.inputs {
+        Inputs::Train { vehicles, order } => {
+            let records = vehicles.as_chunks().0;
+            let leading = records.iter().take_while(|one| is_working(one)).count();
+            let (working, hauled) = records.split_at(leading);
+            Some((Facts::of_train(working, hauled), Order::read(order)?))
+        }
+        Inputs::Engines {
+            engines,
+            hauled,
+            order,
+        } => {
+            let account = Account::read(hauled)?;
+            let facts = Facts::of_account(engines.as_chunks().0, &account);
+            Some((facts, Order::read(order)?))
+        }
+        _ => None,
+    }
+}
+
+fn add(counts: &mut [u64], more: &[u64]) {
+    for (count, more) in counts.iter_mut().zip(more) {
+        *count += more;
+    }
+}
+
+impl Sheets {
+    fn note(&mut self, sheet: &[u8]) {
+        self.common[usize::from(sheet[3]) % 48] += 1;
+        for (rules, &broken) in self.by_category.iter_mut().zip(&sheet[4..9]) {
+            rules[usize::from(broken) % 48] += 1;
+        }
+        self.granted[usize::from(sheet[0]) % 6][usize::from(sheet[1]) % 6] += 1;
+    }
+
+    fn add(&mut self, other: &Sheets) {
+        add(&mut self.common, &other.common);
+        add(
+            self.by_category.as_flattened_mut(),
+            other.by_category.as_flattened(),
+        );
+        add(
+            self.granted.as_flattened_mut(),
+            other.granted.as_flattened(),
+        );
+        self.boundaries.add(&other.boundaries);
+    }
+
+    fn missing(&self, whose: &str, scope: Scope, missing: &mut Vec<String>) {
+        for rule in COMMON_RULES {
+            if self.common[usize::from(rule)] == 0 {
+                missing.push(format!("{whose}: common rule {rule}"));
+            }
+        }
+        for (category, rules) in (1..).zip(&self.by_category) {
+            for &rule in own_rules(category) {
+                if rules[usize::from(rule)] == 0 {
+                    missing.push(format!("{whose}: category {category} rule {rule}"));
+                }
+            }
+        }
+        for (asked, granted) in grants() {
+            if self.granted[asked][granted] == 0 {
+                missing.push(format!("{whose}: asked {asked} granted {granted}"));
+            }
+        }
+        if scope == Scope::Functions {
+            let boundaries = self.boundaries.missing().into_iter();
+            missing.extend(boundaries.map(|name| format!("{whose}: all sides of {name}")));
+        }
+    }
+
+    fn table(&self, whose: &str) -> String {
+        let mut text = format!("first rule broken, sheets of {whose}\n  rule   common");
+        for category in 1..=5 {
+            let _ = write!(text, " {:>8}", format!("cat {category}"));
+        }
+        text.push('\n');
+        for rule in (0..1).chain(15..48) {
+            let counts = [
+                &[self.common[rule]],
+                &self.by_category.map(|one| one[rule])[..],
+            ]
+            .concat();
+            if counts.iter().any(|&count| count > 0) {
+                let row: Vec<String> = counts.iter().map(|count| format!("{count:>8}")).collect();
+                let _ = writeln!(text, "  {rule:>4} {}", row.join(" "));
+            }
+        }
+        let _ = writeln!(text, "asked and granted, sheets of {whose}");
+        for asked in 1..6 {
+            let row = (0..6).filter(|&granted| granted == 0 || granted >= asked);
+            let row: Vec<String> = row
+                .map(|granted| format!("{granted}: {}", self.granted[asked][granted]))
+                .collect();
+            let _ = writeln!(text, "  asked {asked}  granted {}", row.join("  "));
+        }
+        let _ = writeln!(
+            text,
+            "boundaries, sheets of {whose}: one below, at, one above"
+        );
+        text + &self.boundaries.table()
+    }
+}
+
+fn own_rules(category: usize) -> &'static [u8] {
+    match category {
+        1..=3 => &P_RULES,
+        _ => &G_RULES,
+    }
+}
+
+/// Every pair of asked and granted numbers that can occur.
+fn grants() -> Vec<(usize, usize)> {
+    let all = (1..6).flat_map(|asked| (0..6).map(move |granted| (asked, granted)));
+    all.filter(|&(asked, granted)| granted == 0 || granted >= asked)
+        .collect()
+}

@@ -1,0 +1,331 @@
+//! The library against the model: answers and every byte of the lent buffers.
+
+use std::sync::atomic::{AtomicU64, Ordering};
+
+use crate::call::{Call, Inputs, Model, Side, BUFFER};
+use crate::coverage::Coverage;
+use crate::gen::draft::bytes;
+use crate::gen::mixture::{
+    cut, engines_call, join_call, portion_call, speed_call, train_call, Cut,
+};
+use crate::gen::trains::Size;
+use crate::line::hex;
+use crate::random::Random;
+
+/// Differences that are written out; the others are only counted.
+const SHOWN: usize = 5;
+
+pub const KINDS: [&str; 6] = [
+    "whole trains",
+    "portions",
+    "joins",
+    "cut and grouped lists",
+    "engines with an account",
+    "holds the speed",
+];
+
+#[derive(Clone, Default)]
+pub struct Report {
+    pub kinds: [u64; 6],
+    pub calls: u64,
+    pub differences: u64,
+    pub shown: Vec<String>,
+    pub coverage: Coverage,
+}
+
+impl Report {
+    pub fn compared(&self) -> u64 {
+        self.kinds.iter().sum()
+    }
+
+    pub fn add(&mut self, other: Report) {
+        for (count, more) in self.kinds.iter_mut().zip(other.kinds) {
+            *count += more;
+        }
+        self.calls += other.calls;
+        self.differences += other.differences;
+        self.shown.extend(other.shown);
+        self.shown.truncate(SHOWN);
+        self.coverage.add(&other.coverage);
+    }
+}
+
+/// A run over cases by their index; joins have a seed of their own.
+pub struct Run<'a, S: Side> {
+    pub library: &'a S,
+    pub seed: u64,
+    pub done: &'a AtomicU64,
+}
+
+impl<S: Side> Run<'_, S> {
+    pub fn cases(
+        &self,
+        trains: impl Iterator<Item = u64>,
+        joins: impl Iterator<Item = u64>,
+    ) -> Report {
+        let mut report = Report::default();
+        for index in trains {
+            let mut random = Random::for_case(self.seed, index);
+            let mut case = Case::new(self.library, &mut report);
+            case.check(&train_call(&mut random, Size::Any));
+            let wrong = case.wrong;
+            self.close(&mut report, 0, "train", index, wrong);
+        }
+        for index in joins {
+            let mut random = Random::for_case(!self.seed, index);
+            let mut case = Case::new(self.library, &mut report);
+            let kind = case.join_case(&mut random);
+            let wrong = case.wrong;
+            self.close(&mut report, kind, "join", index, wrong);
+        }
+        report
+    }
+
+    fn close(&self, report: &mut Report, kind: usize, name: &str, index: u64, wrong: Vec<String>) {
+        report.kinds[kind] += 1;
+        self.done.fetch_add(1, Ordering::Relaxed);
+        if let Some(first) = wrong.first() {
+            report.differences += 1;
+            if report.shown.len() < SHOWN {
+                let seed = self.seed;
+                let text = format!("difference: seed {seed}, {name} index {index}\n{first}");
+                report.shown.push(text);
+            }
+        }
+    }
+}
+
+/// The calls that belong to one index.
+struct Case<'a, S: Side> {
+    library: &'a S,
+    report: &'a mut Report,
+    wrong: Vec<String>,
+}
+
+impl<'a, S: Side> Case<'a, S> {
+    fn new(library: &'a S, report: &'a mut Report) -> Case<'a, S> {
+        Case {
+            library,
+            report,
+            wrong: vec![],
+        }
+    }
+
+    fn join_case(&mut self, random: &mut Random) -> usize {
+        let (kind, call) = match random.below(100) {
+            0..20 => (1, portion_call(random)),
+            20..50 => (2, join_call(random)),
+            50..70 => {
+                let cut = cut(random);
+                self.grouping(random, &cut);
+                return 3;
+            }
+            70..90 => (4, engines_call(random)),
+            _ => (5, speed_call(random)),
+        };
+        self.check(&call);
+        kind
+    }
+
+    /// Runs both sides, and hands back what the model gave.
+    fn check(&mut self, call: &Call) -> (u64, [u8; BUFFER]) {
+        let (model, expected) = call.outcome(&Model);
+        let (library, found) = call.outcome(self.library);
+        self.report.calls += 1;
+        self.report.coverage.note(call, model, &expected);
+        if (model, &expected) != (library, &found) {
+            self.wrong.push(format!(
+                "  {}\n{}  model   {} {}\n  library {} {}\n",
+                call.function().name(),
+                call.describe(),
+                shown(model),
+                hex(&expected[..call.room]),
+                shown(library),
+                hex(&found),
+            ));
+        }
+        self.check_writing(call, library, &found);
+        (model, expected)
+    }
+
+    /// A refused call leaves the buffer as it was, a done one what stands behind the bytes it writes.
+    fn check_writing(&mut self, call: &Call, answer: u64, found: &[u8; BUFFER]) {
+        let function = call.function();
+        let written = match function.is_done(answer) {
+            true => function.writes(),
+            false => 0,
+        };
+        if found[written..] != call.buffer()[written..] {
+            self.wrong.push(format!(
+                "  {}: bytes written that are not to be\n{}  answer {answer}\n  buffer {}\n",
+                function.name(),
+                call.describe(),
+                hex(found),
+            ));
+        }
+    }
+
+    /// The joined account is the uncut list's, and gives the sheet of the whole train.
+    fn grouping(&mut self, random: &mut Random, cut: &Cut) {
+        let mut accounts: Vec<Vec<u8>> = vec![];
+        for portion in &cut.portions {
+            accounts.push(self.account_of(portion.clone()));
+        }
+        while accounts.len() > 1 {
+            let place = random.below(accounts.len() - 1);
+            let right = accounts.remove(place + 1);
+            let left = std::mem::take(&mut accounts[place]);
+            accounts[place] = self.joined(left, right);
+        }
+        let hauled = accounts.remove(0);
+        let uncut = self.account_of(bytes(&cut.draft.hauled));
+        if hauled != uncut {
+            self.wrong.push(format!(
+                "  joined account is not the uncut list's\n  joined {}\n  uncut  {}\n",
+                hex(&hauled),
+                hex(&uncut)
+            ));
+        }
+        self.both_sheets(cut, hauled);
+    }
+
+    fn account_of(&mut self, portion: Vec<u8>) -> Vec<u8> {
+        self.account(Inputs::Portion { portion })
+    }
+
+    fn joined(&mut self, left: Vec<u8>, right: Vec<u8>) -> Vec<u8> {
+        self.account(Inputs::Accounts { left, right })
+    }
+
+    fn account(&mut self, inputs: Inputs) -> Vec<u8> {
+        let call = Call {
+            inputs,
+            room: 64,
+            fill: 0x5a,
+        };
+        let (answer, buffer) = self.check(&call);
+        if answer != 0 {
+            let name = call.function().name();
+            let text = format!("  {name} refused a portion of a list: {}\n", shown(answer));
+            self.wrong.push(text + &call.describe());
+        }
+        buffer[..64].to_vec()
+    }
+
+    fn both_sheets(&mut self, cut: &Cut, hauled: Vec<u8>) {
+        let order = cut.draft.order.write().to_vec();
+        let of_train = Inputs::Train {
+            vehicles: cut.draft.vehicles(),
+            order: order.clone(),
+        };
+        let of_account = Inputs::Engines {
+            engines: bytes(&cut.draft.working),
+            hauled,
+            order,
+        };
+        let sheet = |inputs| Call {
+            inputs,
+            room: 40,
+            fill: 0xa5,
+        };
+        let train = self.check(&sheet(of_train));
+        let account = self.check(&sheet(of_account));
+        if train != account {
+            self.wrong.push(format!(
+                "  the account's sheet is not the train's\n  train   {} {}\n  account {} {}\n",
+                shown(train.0),
+                hex(&train.1[..40]),
+                shown(account.0),
+                hex(&account.1[..40]),
+            ));
+        }
+    }
+}
+
+fn shown(answer: u64) -> String {
+    format!("number {} place {}", answer % 256, answer / 256)
+}
+
+#[cfg(test)]
+mod tests {
+    use super::*;
+
+    /// The model with one slip of the page's list, or with a write where none is allowed.
+    #[derive(Clone, Copy, PartialEq)]
+    enum Slip {
+        None,
+        MarginTowardZero,
+        LongestByTheGreater,
+        PlaceOffByOne,
+        WritesBehind,
+        WritesWhenRefused,
+    }
+
+    impl Side for Slip {
+        fn sheet_of_train(&self, vehicles: &[u8], order: &[u8], room: &mut [u8]) -> u64 {
+            let answer = Model.sheet_of_train(vehicles, order, room);
+            match self {
+                Slip::MarginTowardZero if answer == 0 && room[10..13] == [255; 3] => {
+                    room[10..13].fill(0);
+                }
+                Slip::PlaceOffByOne if answer > 256 => return answer - 256,
+                Slip::WritesWhenRefused if answer == 14 => room[31] = 0,
+                _ => {}
+            }
+            answer
+        }
+
+        fn account_of(&self, portion: &[u8], room: &mut [u8]) -> u64 {
+            let answer = Model.account_of(portion, room);
+            if *self == Slip::WritesBehind && answer == 0 && room.len() > 64 {
+                room[64] = 0;
+            }
+            answer
+        }
+
+        fn join(&self, left: &[u8], right: &[u8], room: &mut [u8]) -> u64 {
+            let answer = Model.join(left, right, room);
+            if *self == Slip::LongestByTheGreater && answer == 0 {
+                room[30] = left[30].max(right[30]);
+            }
+            answer
+        }
+
+        fn sheet_of_account(
+            &self,
+            engines: &[u8],
+            hauled: &[u8],
+            order: &[u8],
+            room: &mut [u8],
+        ) -> u64 {
+            Model.sheet_of_account(engines, hauled, order, room)
+        }
+
+        fn holds_the_speed(&self, front: &[u8], back: &[u8], room: &mut [u8]) -> usize {
+            Model.holds_the_speed(front, back, room)
+        }
+    }
+
+    fn differences(slip: Slip) -> u64 {
+        let run = Run {
+            library: &slip,
+            seed: 3,
+            done: &AtomicU64::new(0),
+        };
+        run.cases(0..3_000, 0..3_000).differences
+    }
+
+    #[test]
+    fn the_two_readings_of_the_model_agree() {
+        assert_eq!(differences(Slip::None), 0);
+    }
+
+    #[test]
+    fn slips_are_found() {
+        assert!(differences(Slip::MarginTowardZero) > 0);
+        assert!(differences(Slip::LongestByTheGreater) > 0);
+        assert!(differences(Slip::PlaceOffByOne) > 0);
+        assert!(differences(Slip::WritesBehind) > 0);
+        assert!(differences(Slip::WritesWhenRefused) > 0);
+    }
+}

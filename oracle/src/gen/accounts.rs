@@ -1,0 +1,214 @@
+//! Accounts that lists have, and accounts at and around every ceiling that no list has.
+
+use super::damage::{flip_bytes, Span};
+use super::draft::bytes;
+use super::trains::{plain_train, train, Size};
+use crate::account::{Account, ACCOUNT, NO_SETTING};
+use crate::random::Random;
+use crate::vehicle::{Vehicle, ISOLATED, SET_TO_M, SET_TO_V};
+
+const fn figure(at: usize, width: usize, high: u64) -> Span {
+    Span {
+        at,
+        width,
+        low: 0,
+        high,
+    }
+}
+
+/// Every figure, mark and setting of the 64-byte record with its ceiling.
+pub const FIGURES: [Span; 24] = [
+    figure(0, 4, 200),
+    figure(4, 4, 500_000),
+    figure(8, 4, 500_000),
+    figure(12, 4, 500_000),
+    figure(16, 4, 200_000),
+    figure(20, 2, 4_800),
+    figure(22, 2, 4_800),
+    figure(24, 1, 200),
+    figure(25, 1, 200),
+    figure(26, 1, 200),
+    figure(27, 1, 200),
+    figure(28, 1, 200),
+    figure(29, 1, 200),
+    figure(30, 1, 200),
+    figure(31, 1, 1),
+    figure(32, 1, 1),
+    figure(33, 1, 1),
+    figure(34, 1, 1),
+    figure(35, 1, 200),
+    figure(36, 1, 4),
+    figure(37, 1, 4),
+    figure(38, 1, 4),
+    figure(39, 1, 4),
+    figure(40, 1, 4),
+];
+
+/// The figures that joining adds up; runs may be added too.
+const SUMS: usize = 14;
+
+pub type AccountBytes = [u8; ACCOUNT];
+
+/// An account within its ceilings.
+pub fn good_account(random: &mut Random) -> AccountBytes {
+    match random.below(10) {
+        0..4 => listed(random),
+        4..7 => plausible(random).write(),
+        7 => nearly_listed(random),
+        8 => at_ceilings(random),
+        _ => anywhere(random),
+    }
+}
+
+/// Of a list that a train could haul.
+fn listed(random: &mut Random) -> AccountBytes {
+    let hauled = match random.below(10) {
+        0 => vec![],
+        1..5 => train(random, Size::Any).hauled,
+        _ => plain_train(random, Size::Few).hauled,
+    };
+    account_of(&hauled)
+}
+
+/// The account of good hauled vehicles.
+pub fn account_of(hauled: &[Vehicle]) -> AccountBytes {
+    Account::of(bytes(hauled).as_chunks().0).write()
+}
+
+/// Of a list, with one figure that is not the list's.
+fn nearly_listed(random: &mut Random) -> AccountBytes {
+    let mut account = listed(random);
+    let span = &FIGURES[random.below(FIGURES.len())];
+    span.write(&mut account, random.draw() % (span.high + 1));
+    account
+}
+
+/// Some figures at their ceilings or one below, the others 0 or anywhere.
+fn at_ceilings(random: &mut Random) -> AccountBytes {
+    let mut account = [0; ACCOUNT];
+    for span in &FIGURES {
+        let inside = random.draw() % (span.high + 1);
+        let value = random.pick(&[0, inside, span.high, span.high - 1]);
+        span.write(&mut account, value);
+    }
+    account
+}
+
+fn anywhere(random: &mut Random) -> AccountBytes {
+    let mut account = [0; ACCOUNT];
+    for span in &FIGURES {
+        span.write(&mut account, random.draw() % (span.high + 1));
+    }
+    account
+}
+
+/// Figures about the rules' boundaries, mostly such that a category stands; no list need have them.
+pub fn plausible(random: &mut Random) -> Account {
+    let near = |random: &mut Random, at: &[i64]| (random.pick(at) + random.around()) as u32;
+    let mark = |random: &mut Random| random.percent(2);
+    let mass = near(random, &[2_000, 6_000, 8_000, 12_000, 16_000]);
+    let (braked_v, braked_m) = plausible_brakes(random, mass);
+    let first = plausible_settings(random, mass > 12_000);
+    let in_m = first.iter().filter(|&&setting| setting == SET_TO_M).count() as u32;
+    Account {
+        count: random.pick(&[1, 2, 4, 5, 6, 20, 100, 198, 199]),
+        mass,
+        braked_v,
+        braked_m,
+        length: near(random, &[1_500, 4_000, 5_000, 5_200, 6_800, 7_000]),
+        axles: near(random, &[40, 200, 246]),
+        axles_v: near(random, &[4, 8, 12]),
+        engines: random.pick(&[0, 0, 0, 1, 2, 3, 5, 6]),
+        set_to_m: random.pick(&[0, 0, in_m, in_m, in_m + 1]),
+        isolated: random.pick(&[0, 1, 10, 200]),
+        d_loads: random.pick(&[0, 1, 199, 200]),
+        leading: u32::from(mark(random)),
+        trailing: u32::from(mark(random)),
+        longest: random.pick(&[0, 0, 9, 10, 11]),
+        engine_behind_wagon: mark(random),
+        rule_16: mark(random),
+        rule_17: mark(random),
+        rule_18: mark(random),
+        slowest: random.pick(&[0, 1, 80, 90, 91, 100, 100, 120, 120, 200]),
+        first,
+    }
+}
+
+/// V and M masses for categories 1 to 3, or for 4 and 5.
+fn plausible_brakes(random: &mut Random, mass: u32) -> (u32, u32) {
+    match random.below(10) {
+        0..6 => (
+            mass * random.pick(&[50, 60, 80, 100, 120]) / 100,
+            random.pick(&[0, 1, 2, 3, 1_000, 5_000]),
+        ),
+        _ => (
+            random.pick(&[0, 1, 1_000, 1_999, 2_000, 2_001]),
+            mass * random.pick(&[45, 60, 80, 100]) / 100,
+        ),
+    }
+}
+
+fn plausible_settings(random: &mut Random, heavy: bool) -> [u8; 5] {
+    let in_m = if heavy { 70 } else { 25 };
+    std::array::from_fn(|_| match random.percent(in_m) {
+        true => SET_TO_M,
+        false => random.pick(&[ISOLATED, SET_TO_V, NO_SETTING, NO_SETTING]),
+    })
+}
+
+/// Refusal 7: a figure above its ceiling, a mark of 2, an unused byte, another length.
+pub fn bad_account(random: &mut Random) -> Vec<u8> {
+    let mut account = good_account(random).to_vec();
+    match random.below(10) {
+        0..2 => account.resize(random.pick(&[0, 63, 65, 128]), 0),
+        2..4 => account[41 + random.below(ACCOUNT - 41)] = random.pick(&[1, 255]),
+        _ => FIGURES[random.below(FIGURES.len())].write_bad(random, &mut account),
+    }
+    account
+}
+
+/// Good or bad, as it comes.
+pub fn any_account(random: &mut Random) -> Vec<u8> {
+    match random.below(20) {
+        0..2 => bad_account(random),
+        2 => {
+            let mut account = good_account(random);
+            FIGURES[random.below(FIGURES.len())].write_edge(random, &mut account);
+            account.to_vec()
+        }
+        3 => {
+            let mut account = good_account(random);
+            flip_bytes(random, &mut account);
+            account.to_vec()
+        }
+        _ => good_account(random).to_vec(),
+    }
+}
+
+/// Two accounts whose joined figure stands at its ceiling, one below or one above.
+pub fn pair_at_ceiling(random: &mut Random) -> (AccountBytes, AccountBytes) {
+    let mut left = account_of(&plain_train(random, Size::Few).hauled);
+    let mut right = account_of(&plain_train(random, Size::Few).hauled);
+    if random.percent(30) {
+        fill_with_runs(random, &mut left);
+        fill_with_runs(random, &mut right);
+    }
+    for _ in 0..random.pick(&[1, 1, 1, 2]) {
+        let place = random.below(SUMS);
+        let span = &FIGURES[place];
+        let one = random.draw() % (span.high + 1);
+        let other = span.high - one + random.pick(&[0, 0, 1]);
+        span.write(&mut left, one.saturating_sub(u64::from(random.percent(20))));
+        span.write(&mut right, other.min(span.high));
+    }
+    (left, right)
+}
+
+/// Leading, trailing and count as runs that may go on into the neighbour.
+fn fill_with_runs(random: &mut Random, account: &mut AccountBytes) {
+    let count = random.pick(&[0, 1, 99, 100, 101]);
+    for place in [0, 11, 12, 13] {
+        let value = random.pick(&[count, count, count, 0, 100, 101]);
+        FIGURES[place].write(account, value);
+    }
+}

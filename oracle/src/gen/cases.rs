@@ -1,0 +1,213 @@
+//! Cases A to H of document 01, each with its neighbours.
+
+use super::draft::{aim, Draft, BRAKED_V, LENGTH, MASS};
+use crate::order::Order;
+use crate::vehicle::{Vehicle, ISOLATED, SET_TO_M, SET_TO_V, WAGON, WORKING_ENGINE};
+
+pub struct Case {
+    pub name: String,
+    pub draft: Draft,
+}
+
+/// Every case with those one below and one above.
+pub fn cases() -> Vec<Case> {
+    let mut cases = vec![];
+    let mut add = |name: String, draft: Draft| cases.push(Case { name, draft });
+    for v in [499, 500, 501] {
+        add(format!("A {v}"), case_a_with(v));
+    }
+    for v in [429, 430, 431] {
+        add(format!("B {v}"), case_a_with(v));
+    }
+    for above in [0, 1, 2, 3, 4] {
+        add(format!("C, D {above} at 432"), case_d(above));
+    }
+    for length in [
+        4_999, 5_000, 5_001, 5_199, 5_200, 5_201, 6_999, 7_000, 7_001,
+    ] {
+        add(format!("E {length}"), case_e(length));
+    }
+    for mass in [7_999, 8_000, 8_001] {
+        add(format!("F {mass}"), case_f(mass));
+    }
+    for mass in [11_999, 12_000, 12_001] {
+        for asked in 1..=5 {
+            add(format!("G {mass} asked {asked}"), case_g(mass, asked));
+        }
+    }
+    for run in [9, 10, 11, 12] {
+        add(format!("H {run}"), case_h(run));
+    }
+    cases
+}
+
+pub fn case_a() -> Draft {
+    case_a_with(500)
+}
+
+/// Case A with another V mass on its ten wagons; B has 430.
+fn case_a_with(wagon_v: u16) -> Draft {
+    let engine = Vehicle {
+        number: 1,
+        mass: 900,
+        braked_v: 1_000,
+        braked_m: 800,
+        length: 200,
+        axles: 4,
+        kind: WORKING_ENGINE,
+        setting: SET_TO_V,
+        joined: 1,
+        speed: 140,
+        matrossow: 0,
+        d_load: 0,
+        closing: 0,
+    };
+    let wagon = Vehicle {
+        mass: 600,
+        braked_v: wagon_v,
+        braked_m: 500,
+        length: 150,
+        kind: WAGON,
+        speed: 120,
+        ..engine
+    };
+    let order = Order {
+        limits: [100; 5],
+        asked: 1,
+        percentage: 0,
+        coupling: 100_000,
+        admissible: 100_000,
+    };
+    let mut draft = Draft {
+        working: vec![engine],
+        hauled: vec![wagon; 10],
+        order,
+    };
+    draft.renumber();
+    draft
+}
+
+/// C has one wagon at 432 and nine at 431, D three and seven.
+fn case_d(above: usize) -> Draft {
+    let mut draft = case_a_with(431);
+    for wagon in &mut draft.hauled[..above] {
+        wagon.braked_v = 432;
+    }
+    draft
+}
+
+fn case_e(length: i64) -> Draft {
+    let mut draft = case_a();
+    aim(&mut draft.hauled, LENGTH, length);
+    draft
+}
+
+fn case_f(mass: i64) -> Draft {
+    let mut draft = case_a();
+    aim(&mut draft.hauled, MASS, mass);
+    aim(&mut draft.hauled, BRAKED_V, 7_000);
+    draft
+}
+
+fn case_g(mass: i64, asked: u8) -> Draft {
+    let mut draft = case_a();
+    aim(&mut draft.hauled, MASS, mass);
+    aim(&mut draft.hauled, BRAKED_V, 11_000);
+    draft.order.asked = asked;
+    draft
+}
+
+/// A run of isolated wagons between two that are set to M.
+fn case_h(run: usize) -> Draft {
+    let mut draft = case_a();
+    let mut wagon = draft.hauled[0];
+    wagon.setting = SET_TO_M;
+    wagon.braked_m = 2_500;
+    draft.hauled = vec![wagon; run + 2];
+    for isolated in &mut draft.hauled[1..=run] {
+        isolated.setting = ISOLATED;
+    }
+    draft.working[0].setting = SET_TO_M;
+    draft.order.asked = 5;
+    draft.renumber();
+    draft
+}
+
+#[cfg(test)]
+mod tests {
+    use super::*;
+    use crate::calls::sheet_of_train;
+    use crate::category::CATEGORIES;
+    use crate::line::line;
+
+    fn sheet(draft: &Draft) -> [u8; 32] {
+        let mut sheet = [0; 32];
+        let answer = sheet_of_train(&draft.vehicles(), &draft.order.write(), &mut sheet);
+        assert_eq!(answer, 0);
+        sheet
+    }
+
+    fn margin(draft: &Draft) -> i64 {
+        CATEGORIES[0].margin(&draft.facts(), &draft.order)
+    }
+
+    #[test]
+    fn case_a_gives_the_line_of_the_page() {
+        assert_eq!(
+            line(&case_a().input()),
+            "0 0 010164000000002020004400004d000070170000f41a000070170000a4060000\n"
+        );
+        assert_eq!(margin(&case_a()), 274_800);
+    }
+
+    #[test]
+    fn case_b_falls_short_by_two_tonnes() {
+        let draft = case_a_with(430);
+        let sheet = sheet(&draft);
+        assert_eq!(margin(&draft), -5_200);
+        assert_eq!(sheet[10..13], [0xfe, 0xff, 0xff]);
+        assert_eq!((sheet[1], sheet[4]), (2, 47));
+    }
+
+    #[test]
+    fn cases_c_and_d_stand_on_either_side_of_zero() {
+        assert_eq!(margin(&case_d(1)), -800);
+        assert_eq!(sheet(&case_d(1))[10..13], [0xff, 0xff, 0xff]);
+        assert_eq!(margin(&case_d(3)), 0);
+        let even = sheet(&case_d(3));
+        assert_eq!(even[10..13], [0, 0, 0]);
+        assert_eq!((even[1], even[4]), (1, 0));
+    }
+
+    #[test]
+    fn case_e_deducts_k_percent() {
+        for (length, k) in [(5_000, 0), (5_001, 1), (5_200, 1), (5_201, 2), (7_000, 10)] {
+            let sheet = sheet(&case_e(length));
+            let braked = u32::from_le_bytes([sheet[24], sheet[25], sheet[26], sheet[27]]);
+            assert_eq!(braked, 6_000 - 60 * k, "{length}");
+            assert_eq!(sheet[3], 0);
+        }
+        assert_eq!(sheet(&case_e(7_001))[3..9], [22; 6]);
+    }
+
+    #[test]
+    fn case_f_asks_for_an_engine_in_m() {
+        assert_eq!(sheet(&case_f(8_000))[4..7], [0; 3]);
+        assert_eq!(sheet(&case_f(8_001))[4..7], [42; 3]);
+    }
+
+    #[test]
+    fn case_g_marks_the_heavy_train() {
+        for asked in 1..=3 {
+            assert_eq!(sheet(&case_g(12_000, asked))[14], 0);
+            assert_eq!(sheet(&case_g(12_001, asked))[14], 1);
+        }
+        assert_eq!(sheet(&case_g(12_001, 4))[14], 0);
+    }
+
+    #[test]
+    fn case_h_bears_ten_isolated() {
+        assert_eq!(sheet(&case_h(10))[8], 0);
+        assert_eq!(sheet(&case_h(11))[8], 33);
+    }
+}

@@ -1,0 +1,131 @@
+//! Rule 47 and bytes 10 to 12: braked masses that give a chosen margin exactly.
+
+use super::draft::{aim, Draft, BRAKED_M, BRAKED_V, LENGTH, MASS};
+use crate::category::begun_20_m;
+use crate::random::Random;
+use crate::vehicle::{Vehicle, SET_TO_M, SET_TO_V};
+
+/// p of categories 1 to 5, before byte 6.
+const PERCENTAGES: [i64; 5] = [77, 60, 60, 57, 50];
+
+/// Brings the margin of the asked category, or of a later one, where it is wanted; some trains cannot have it.
+pub fn aim_margin(random: &mut Random, draft: &mut Draft) {
+    let asked = usize::from(draft.order.asked);
+    let later = asked + random.below(6 - asked);
+    let category = random.pick(&[asked, asked, later]);
+    bring(random, draft, category, wanted);
+}
+
+/// An odd margin needs three quarters of an odd M mass and an odd k, so a heavy train of categories 1 to 3.
+pub fn aim_odd_margin(random: &mut Random, draft: &mut Draft) {
+    if draft.hauled.len() < 6 {
+        return aim_margin(random, draft);
+    }
+    for (place, vehicle) in draft.hauled.iter_mut().enumerate() {
+        vehicle.setting = if place < 5 { SET_TO_M } else { SET_TO_V };
+    }
+    for engine in &mut draft.working {
+        engine.setting = SET_TO_M;
+    }
+    aim(&mut draft.hauled, MASS, random.between(12_001, 15_800));
+    let begun = random.pick(&[1, 3, 5, 7, 9]);
+    let length = 4_800 + 200 * begun + random.between(1, 200);
+    aim(&mut draft.hauled, LENGTH, length);
+    draft.order.asked = random.pick(&[1, 2, 3]);
+    let category = usize::from(draft.order.asked);
+    bring(random, draft, category, |random| {
+        let off = random.pick(&[-1, 1]);
+        off + random.pick(&[0, 0, 0, -12_000, -8_000, -4_000, 4_000, 8_000])
+    });
+}
+
+fn bring(random: &mut Random, draft: &mut Draft, category: usize, wanted: fn(&mut Random) -> i64) {
+    let puzzle = Puzzle::new(draft, category);
+    for _ in 0..8 {
+        let margin = wanted(random);
+        for more_mass in 0..100 {
+            if let Some((v, m)) = puzzle.solve(margin, more_mass) {
+                let mass: i64 = draft.hauled.iter().map(MASS.get).sum();
+                aim(&mut draft.hauled, MASS, mass + more_mass);
+                aim(set_to(&mut draft.hauled, SET_TO_V), BRAKED_V, v);
+                aim(set_to(&mut draft.hauled, SET_TO_M), BRAKED_M, m);
+                return;
+            }
+        }
+    }
+}
+
+/// Around zero, and around multiples of 4,000 of both signs.
+fn wanted(random: &mut Random) -> i64 {
+    let off = random.pick(&[-400, -4, -3, -2, -1, 0, 0, 1, 2, 3, 4, 400]);
+    match random.below(2) {
+        0 => off,
+        _ => 4_000 * random.between(-5, 5) + off,
+    }
+}
+
+fn set_to(vehicles: &mut [Vehicle], setting: u8) -> impl Iterator<Item = &mut Vehicle> {
+    vehicles
+        .iter_mut()
+        .filter(move |vehicle| vehicle.setting == setting)
+}
+
+/// What stays as it is while the hauled braked masses are sought.
+struct Puzzle {
+    p: i64,
+    train_mass: i64,
+    /// 100 - k.
+    kept: i64,
+    /// How often Q counts an M mass; it counts a V mass four times.
+    weight_m: i64,
+    /// What the working engines give to Q.
+    engines: i64,
+    m_now: i64,
+    most_v: i64,
+    most_m: i64,
+}
+
+impl Puzzle {
+    fn new(draft: &Draft, category: usize) -> Puzzle {
+        let facts = draft.facts();
+        let (weight_m, kept) = match category {
+            1..=3 => (3, 100 - begun_20_m(facts.hauled_length).min(10)),
+            _ => (4, 100),
+        };
+        let sum = |vehicles: &[Vehicle], setting: u8, value: fn(&Vehicle) -> i64| -> i64 {
+            let set = vehicles.iter().filter(|one| one.setting == setting);
+            set.map(value).sum()
+        };
+        Puzzle {
+            p: PERCENTAGES[category - 1].max(i64::from(draft.order.percentage)),
+            train_mass: i64::from(facts.train_mass),
+            kept,
+            weight_m,
+            engines: 4 * sum(&draft.working, SET_TO_V, BRAKED_V.get)
+                + weight_m * sum(&draft.working, SET_TO_M, BRAKED_M.get),
+            m_now: sum(&draft.hauled, SET_TO_M, BRAKED_M.get),
+            most_v: sum(&draft.hauled, SET_TO_V, |_| BRAKED_V.high),
+            most_m: sum(&draft.hauled, SET_TO_M, |_| BRAKED_M.high),
+        }
+    }
+
+    /// The sums of hauled V and M masses that give the margin exactly.
+    fn solve(&self, margin: i64, more_mass: i64) -> Option<(i64, i64)> {
+        let needed = margin + 4 * self.p * (self.train_mass + more_mass);
+        if needed < 0 || needed % self.kept != 0 {
+            return None;
+        }
+        let rest = needed / self.kept - self.engines;
+        // Neighbours of the M mass leave every remainder that V, counted four times, may want.
+        (-3..=3).find_map(|step| {
+            let m = match self.most_v {
+                0 => rest / self.weight_m,
+                _ => self.m_now + step,
+            };
+            let v = (rest - self.weight_m * m) / 4;
+            let exact = 4 * v + self.weight_m * m == rest;
+            let held = (0..=self.most_v).contains(&v) && (0..=self.most_m).contains(&m);
+            (exact && held).then_some((v, m))
+        })
+    }
+}

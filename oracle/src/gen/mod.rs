@@ -1,0 +1,11 @@
+//! Inputs: the cases of the page, and seeded random ones near every boundary.
+
+pub mod accounts;
+pub mod cases;
+pub mod damage;
+pub mod draft;
+pub mod edges;
+pub mod margins;
+pub mod mixture;
+pub mod trains;
+pub mod vectors;

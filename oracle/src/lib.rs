@@ -1,0 +1,20 @@
+//! A second reading of document 01: the model, its inputs, and the comparison with the product.
+
+pub mod account;
+pub mod answer;
+pub mod boundaries;
+pub mod call;
+pub mod calls;
+pub mod category;
+pub mod coverage;
+pub mod diff;
+pub mod facts;
+pub mod gen;
+pub mod line;
+pub mod order;
+pub mod precedence;
+pub mod random;
+pub mod rules;
+pub mod sheet;
+pub mod speed;
+pub mod vehicle;

@@ -1,0 +1,240 @@
+//! The time that both sides take on the same inputs.
+
+use std::fmt::Write;
+use std::hint::black_box;
+use std::time::Instant;
+
+use crate::call::{Call, Inputs, Model, Side, BUFFER};
+use crate::gen::accounts::{account_of, bad_account};
+use crate::gen::damage::refused_train;
+use crate::gen::draft::{bytes, Draft};
+use crate::gen::mixture::good_train;
+use crate::random::Random;
+
+/// Hauled records of the trains that are measured.
+pub const SIZES: [usize; 4] = [10, 40, 100, 198];
+
+/// Distinct inputs of each set.
+const DISTINCT: usize = 200;
+
+/// Rounds in which the two take turns; the median counts.
+const ROUNDS: usize = 15;
+
+const SEED: u64 = 7_400;
+
+/// Calls of one kind, and how many records each reads.
+pub struct Workload {
+    pub name: String,
+    pub records: usize,
+    pub calls: Vec<Call>,
+}
+
+impl Workload {
+    fn new(name: String, records: usize, mut make: impl FnMut() -> Call) -> Workload {
+        Workload {
+            name,
+            records,
+            calls: (0..DISTINCT).map(|_| make()).collect(),
+        }
+    }
+
+    /// Calls every input once, and hands back the sum of the answers.
+    pub fn pass(&self, side: &impl Side) -> u64 {
+        let mut buffer = [0; BUFFER];
+        let mut sum = 0;
+        for call in black_box(&self.calls) {
+            sum += call.run(side, black_box(&mut buffer[..call.room]));
+        }
+        black_box(sum)
+    }
+
+    fn nanoseconds(&self, side: &impl Side, passes: usize) -> f64 {
+        let start = Instant::now();
+        for _ in 0..passes {
+            self.pass(side);
+        }
+        start.elapsed().as_nanos() as f64 / (passes * self.calls.len()) as f64
+    }
+}
+
+fn call(inputs: Inputs, room: usize) -> Call {
+    Call {
+        inputs,
+        room,
+        fill: 0,
+    }
+}
+
+fn answers(call: &Call, number: u64) -> bool {
+    call.outcome(&Model).0 % 256 == number
+}
+
+/// Whole trains of one engine and so many hauled, each answered with a sheet.
+pub fn trains(hauled: usize) -> Workload {
+    let mut random = Random::new(SEED + hauled as u64);
+    let name = format!("sheet_of_train, {hauled} hauled");
+    Workload::new(name, hauled + 1, || loop {
+        let draft = good_train(&mut random, hauled);
+        let call = train_call(&draft);
+        if answers(&call, 0) {
+            return call;
+        }
+    })
+}
+
+fn train_call(draft: &Draft) -> Call {
+    let inputs = Inputs::Train {
+        vehicles: draft.vehicles(),
+        order: draft.order.write().to_vec(),
+    };
+    call(inputs, 32)
+}
+
+pub fn portions(hauled: usize) -> Workload {
+    let mut random = Random::new(SEED + hauled as u64);
+    let name = format!("account_of, {hauled} records");
+    Workload::new(name, hauled, || {
+        let portion = bytes(&good_train(&mut random, hauled).hauled);
+        call(Inputs::Portion { portion }, 64)
+    })
+}
+
+/// The account of so many hauled vehicles.
+fn account(random: &mut Random, hauled: usize) -> Vec<u8> {
+    account_of(&good_train(random, hauled).hauled).to_vec()
+}
+
+pub fn joins() -> Workload {
+    let mut random = Random::new(SEED);
+    Workload::new("join".to_owned(), 1, || {
+        let left = account(&mut random, 20);
+        let right = account(&mut random, 30);
+        call(Inputs::Accounts { left, right }, 64)
+    })
+}
+
+pub fn judged() -> Workload {
+    let mut random = Random::new(SEED);
+    Workload::new("sheet_of_account".to_owned(), 1, || {
+        let draft = good_train(&mut random, 40);
+        let inputs = Inputs::Engines {
+            engines: bytes(&draft.working),
+            hauled: account(&mut random, 40),
+            order: draft.order.write().to_vec(),
+        };
+        call(inputs, 32)
+    })
+}
+
+/// Trains of 40 hauled that are refused by one number.
+fn refused(number: u8) -> Workload {
+    let mut random = Random::new(SEED + u64::from(number));
+    let name = format!("sheet_of_train, refusal {number}");
+    Workload::new(name, 41, || loop {
+        let draft = good_train(&mut random, 40);
+        let call = refused_train(&mut random, draft, &[number]);
+        if answers(&call, u64::from(number)) {
+            return call;
+        }
+    })
+}
+
+/// Refusal 3 given at the last record of 199.
+fn refused_at_the_end() -> Workload {
+    let mut random = Random::new(SEED);
+    let name = "sheet_of_train, 3 at the last of 199".to_owned();
+    Workload::new(name, 199, || {
+        let mut draft = good_train(&mut random, 198);
+        draft.hauled[197].speed = random.pick(&[0, 201, 255]);
+        train_call(&draft)
+    })
+}
+
+fn refused_portions() -> Workload {
+    let mut random = Random::new(SEED);
+    let name = "account_of, 6 at the last of 40".to_owned();
+    Workload::new(name, 40, || {
+        let mut hauled = good_train(&mut random, 40).hauled;
+        hauled[39].kind = crate::vehicle::WORKING_ENGINE;
+        let portion = bytes(&hauled);
+        call(Inputs::Portion { portion }, 64)
+    })
+}
+
+fn refused_joins() -> Workload {
+    let mut random = Random::new(SEED);
+    Workload::new("join, refusal 7".to_owned(), 1, || {
+        let left = bad_account(&mut random);
+        let right = account(&mut random, 30);
+        call(Inputs::Accounts { left, right }, 64)
+    })
+}
+
+fn too_long_joins() -> Workload {
+    let mut random = Random::new(SEED);
+    Workload::new("join, refusal 2".to_owned(), 1, || {
+        let left = account(&mut random, 101);
+        let right = account(&mut random, 100);
+        call(Inputs::Accounts { left, right }, 64)
+    })
+}
+
+/// The workload that `instructions` names.
+pub fn workload(what: &str, size: usize) -> Option<Workload> {
+    match what {
+        "train" => Some(trains(size)),
+        "account" => Some(portions(size)),
+        "join" => Some(joins()),
+        "judge" => Some(judged()),
+        "refusal" => Some(refused(size as u8)),
+        _ => None,
+    }
+}
+
+/// Every row of the table, as text.
+pub fn table(library: &impl Side) -> String {
+    let mut workloads: Vec<Workload> = SIZES.into_iter().map(trains).collect();
+    workloads.extend(SIZES.into_iter().map(portions));
+    workloads.extend([joins(), judged()]);
+    workloads.extend([1, 2, 3, 4, 5, 11, 12, 13, 14].map(refused));
+    workloads.push(refused_at_the_end());
+    workloads.extend([refused_portions(), refused_joins(), too_long_joins()]);
+    let mut text = format!(
+        "{:<38} {:>19} {:>19} {:>8}\n{:<38} {:>9} {:>9} {:>9} {:>9} {:>8}\n",
+        "", "library, ns", "model, ns", "model/", "", "call", "record", "call", "record", "library"
+    );
+    for workload in &workloads {
+        let (ours, theirs) = medians(workload, library);
+        let records = workload.records as f64;
+        let _ = writeln!(
+            text,
+            "{:<38} {ours:>9.1} {:>9.2} {theirs:>9.1} {:>9.2} {:>8.2}",
+            workload.name,
+            ours / records,
+            theirs / records,
+            theirs / ours,
+        );
+    }
+    text
+}
+
+/// Nanoseconds per call of the library and of the model.
+fn medians(workload: &Workload, library: &impl Side) -> (f64, f64) {
+    // Both are warmed up, and both make as many passes as the slower makes in about four milliseconds.
+    let slower = workload
+        .nanoseconds(library, 3)
+        .max(workload.nanoseconds(&Model, 3));
+    let passes = (4e6 / (slower * workload.calls.len() as f64)).ceil() as usize;
+    let mut ours = [0.0; ROUNDS];
+    let mut theirs = [0.0; ROUNDS];
+    for (ours, theirs) in ours.iter_mut().zip(&mut theirs) {
+        *ours = workload.nanoseconds(library, passes);
+        *theirs = workload.nanoseconds(&Model, passes);
+    }
+    (median(ours), median(theirs))
+}
+
+fn median(mut times: [f64; ROUNDS]) -> f64 {
+    times.sort_by(f64::total_cmp);
+    times[ROUNDS / 2]
+}
