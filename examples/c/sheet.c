@@ -1,0 +1,168 @@
+/* What a yard's program does with Prskavon, on document 01's case A: one engine and ten wagons.
+ * Masses are in tenths of a tonne, lengths in decimetres, speeds in km/h. */
+#include <inttypes.h>
+#include <stdbool.h>
+#include <stdio.h>
+#include <stdlib.h>
+#include <string.h>
+
+#include "prskavon.h"
+
+enum { VEHICLES = 11, TRAIN = VEHICLES * PRSKAVON_VEHICLE, ENGINE = PRSKAVON_VEHICLE, CUT = 4 * PRSKAVON_VEHICLE };
+
+/* Kinds and settings of bytes 17 and 18, as far as this train has them. */
+enum { WAGON = 0, WORKING_ENGINE = 2, SET_V = 2 };
+
+struct vehicle {
+    uint64_t number;
+    uint16_t mass, braked_v, braked_m, length;
+    uint8_t axles, kind, setting, speed;
+};
+
+static const char *const category[] = {"none", "ME120/P120", "ME100/P100", "MA100/P100", "MA100/G100", "MA90/G90"};
+
+/* Document 01 prints case A's line; case B's follows from its margin of -2 t, rule 47 and 43.0 t a wagon. */
+static const char case_a[] = "0 0 010164000000002020004400004d000070170000f41a000070170000a4060000";
+static const char case_b[] = "0 0 010264002f0000202000feffff4d000070170000f41a0000b4140000a4060000";
+
+static void expect(bool holds, const char *what) {
+    if (!holds) {
+        fprintf(stderr, "not as document 01 says: %s\n", what);
+        exit(1);
+    }
+}
+
+static void put(uint8_t *at, uint64_t value, int bytes) {
+    for (int i = 0; i < bytes; i++) at[i] = (uint8_t)(value >> (8 * i));
+}
+
+static uint64_t get(const uint8_t *at, int bytes) {
+    uint64_t value = 0;
+    for (int i = 0; i < bytes; i++) value |= (uint64_t)at[i] << (8 * i);
+    return value;
+}
+
+static void put_vehicle(uint8_t *record, struct vehicle v) {
+    memset(record, 0, PRSKAVON_VEHICLE);
+    put(record, v.number, 8);
+    put(record + 8, v.mass, 2);
+    put(record + 10, v.braked_v, 2);
+    put(record + 12, v.braked_m, 2);
+    put(record + 14, v.length, 2);
+    record[16] = v.axles;
+    record[17] = v.kind;
+    record[18] = v.setting;
+    record[19] = 1; /* joined to the brake pipe, or rule 17 would be broken */
+    record[20] = v.speed;
+}
+
+static void put_train(uint8_t *train, uint16_t wagon_braked_v) {
+    put_vehicle(train, (struct vehicle){.number = 1, .mass = 900, .braked_v = 1000, .braked_m = 800, .length = 200,
+                                        .axles = 4, .kind = WORKING_ENGINE, .setting = SET_V, .speed = 140});
+    for (size_t i = 1; i < VEHICLES; i++)
+        put_vehicle(train + i * PRSKAVON_VEHICLE,
+                    (struct vehicle){.number = i + 1, .mass = 600, .braked_v = wagon_braked_v, .braked_m = 500,
+                                     .length = 150, .axles = 4, .kind = WAGON, .setting = SET_V, .speed = 120});
+}
+
+static void put_order(uint8_t *order) {
+    memset(order, 0, PRSKAVON_ORDER);
+    memset(order, 100, 5); /* the line's limit in all five columns */
+    order[5] = 1;          /* asked: ME120/P120 */
+    put(order + 8, 100000, 4);
+    put(order + 12, 100000, 4);
+}
+
+/* Bytes 10 to 12 are two's complement: from 0x800000 on they stand for a number below zero. */
+static int32_t margin(const uint8_t *sheet) {
+    int32_t tonnes = (int32_t)get(sheet + 10, 3);
+    return tonnes < 0x800000 ? tonnes : tonnes - 0x1000000;
+}
+
+static void print_sheet(const uint8_t *sheet) {
+    printf("  asked %s, granted %s at %d km/h\n", category[sheet[0]], category[sheet[1]], sheet[2]);
+    printf("  margin %" PRId32 " t over %d percent\n", margin(sheet), sheet[13]);
+    for (int c = 1; c <= 5; c++) {
+        if (sheet[3 + c] == 0)
+            printf("  %s breaks no rule\n", category[c]);
+        else
+            printf("  %s breaks rule %d\n", category[c], sheet[3 + c]);
+    }
+    uint64_t braked = get(sheet + 24, 4), hauled = get(sheet + 16, 4);
+    printf("  braked mass %" PRIu64 ".%" PRIu64 " t, hauled mass %" PRIu64 ".%" PRIu64 " t\n", braked / 10, braked % 10,
+           hauled / 10, hauled % 10);
+}
+
+static void print_answer(uint64_t answer, const char *words) {
+    printf("  number %u, place %zu%s\n", prskavon_number(answer), prskavon_place(answer), words);
+}
+
+static void whole_train(const uint8_t *train, const uint8_t *order, uint8_t *sheet, const char *page) {
+    uint64_t answer = prskavon_sheet_of_train(train, TRAIN, order, PRSKAVON_ORDER, sheet, PRSKAVON_SHEET);
+    expect(answer == 0, "the whole train has a sheet");
+    char line[5 + 2 * PRSKAVON_SHEET] = "0 0 "; /* number, place, sheet: the line that the program SHEET writes */
+    for (int i = 0; i < PRSKAVON_SHEET; i++) sprintf(line + 4 + 2 * i, "%02x", sheet[i]);
+    printf("  %s\n", line);
+    expect(strcmp(line, page) == 0, page);
+    print_answer(answer, "");
+    print_sheet(sheet);
+}
+
+/* Two yards account 3 and 7 wagons; whoever has the engine needs their two accounts and no wagon. */
+static void by_portions(const uint8_t *train, const uint8_t *order, const uint8_t *whole, uint8_t *joined) {
+    uint8_t left[PRSKAVON_ACCOUNT], right[PRSKAVON_ACCOUNT], sheet[PRSKAVON_SHEET];
+    expect(prskavon_account_of(train + ENGINE, CUT - ENGINE, left, sizeof left) == 0, "3 wagons have an account");
+    expect(prskavon_account_of(train + CUT, TRAIN - CUT, right, sizeof right) == 0, "7 wagons have an account");
+    expect(get(left, 4) == 3 && get(right, 4) == 7, "the accounts count 3 and 7 wagons");
+    expect(prskavon_join(left, sizeof left, right, sizeof right, joined, PRSKAVON_ACCOUNT) == 0, "the accounts join");
+    uint64_t answer = prskavon_sheet_of_account(train, ENGINE, joined, PRSKAVON_ACCOUNT, order, PRSKAVON_ORDER, sheet,
+                                                sizeof sheet);
+    print_answer(answer, "");
+    expect(answer == 0, "engine and account have a sheet");
+    expect(memcmp(sheet, whole, sizeof sheet) == 0, "the sheet does not depend on the cut");
+    printf("  byte for byte the same sheet\n");
+}
+
+/* The wagons tie at 120 km/h, so the first of them answers; the engine may do 140. */
+static void speed_holder(const uint8_t *train) {
+    uint8_t vehicle[PRSKAVON_VEHICLE];
+    size_t written = prskavon_holds_the_speed(train, CUT, train + CUT, TRAIN - CUT, vehicle, sizeof vehicle);
+    expect(written == sizeof vehicle, "a vehicle holds the speed");
+    printf("  number %" PRIu64 ", %d km/h\n", get(vehicle, 8), vehicle[20]);
+    expect(memcmp(vehicle, train + ENGINE, sizeof vehicle) == 0, "the first wagon holds the speed");
+}
+
+static void refused(uint64_t answer, unsigned number, size_t place, const char *words, const uint8_t *sheet) {
+    print_answer(answer, words);
+    expect(prskavon_number(answer) == number && prskavon_place(answer) == place, words);
+    for (int i = 0; i < PRSKAVON_SHEET; i++) expect(sheet[i] == 0xaa, "a refused sheet is not written at all");
+    printf("  the sheet was left as it was\n");
+}
+
+int main(void) {
+    uint8_t train[TRAIN], order[PRSKAVON_ORDER], sheet[PRSKAVON_SHEET], account[PRSKAVON_ACCOUNT];
+    uint8_t train_b[TRAIN], sheet_b[PRSKAVON_SHEET];
+    put_order(order);
+    put_train(train, 500);
+    put_train(train_b, 430);
+
+    printf("The whole train, its wagons braked with 50.0 t each (case A)\n");
+    whole_train(train, order, sheet, case_a);
+    printf("The whole train, its wagons braked with 43.0 t each (case B)\n");
+    whole_train(train_b, order, sheet_b, case_b);
+    printf("Case A again, from the engine and the joined accounts of 3 and 7 wagons\n");
+    by_portions(train, order, sheet, account);
+    printf("The vehicle that holds the speed\n");
+    speed_holder(train);
+
+    memset(sheet, 0xaa, sizeof sheet); /* a mark that no refused call may touch */
+    printf("A fourth vehicle with 25 axles\n");
+    train[3 * PRSKAVON_VEHICLE + 16] = 25;
+    refused(prskavon_sheet_of_train(train, TRAIN, order, sizeof order, sheet, sizeof sheet), 3, 3,
+            ": a field out of range; the place is the first such record, counted from 0", sheet);
+    printf("An account with byte 63 set to 1\n");
+    account[63] = 1;
+    refused(prskavon_sheet_of_account(train, ENGINE, account, sizeof account, order, sizeof order, sheet, sizeof sheet),
+            7, 0, ": an account with a figure above its ceiling", sheet);
+    return 0;
+}

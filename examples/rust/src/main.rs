@@ -1,0 +1,225 @@
+//! What a yard's program does with Prskavon, on document 01's case A: one engine and ten wagons.
+//! Masses are in tenths of a tonne, lengths in decimetres, speeds in km/h.
+
+use std::error::Error;
+use std::process::ExitCode;
+
+use prskavon_example::{
+    account_of, holds_the_speed, join, sheet_of_account, sheet_of_train, write_sheet_of_account,
+    write_sheet_of_train, Account, Answer, Refusal, ORDER, SHEET, VEHICLE,
+};
+
+type Checked<T> = Result<T, Box<dyn Error>>;
+
+const VEHICLES: usize = 11;
+const TRAIN: usize = VEHICLES * VEHICLE;
+const CUT: usize = 4 * VEHICLE;
+
+// Kinds and settings of bytes 17 and 18, as far as this train has them.
+const WAGON: u8 = 0;
+const WORKING_ENGINE: u8 = 2;
+const SET_V: u8 = 2;
+
+const CATEGORY: [&str; 6] = [
+    "none",
+    "ME120/P120",
+    "ME100/P100",
+    "MA100/P100",
+    "MA100/G100",
+    "MA90/G90",
+];
+
+// Document 01 prints case A's line; case B's follows from its margin of -2 t, rule 47 and 43.0 t a wagon.
+const CASE_A: &str = "0 0 010164000000002020004400004d000070170000f41a000070170000a4060000";
+const CASE_B: &str = "0 0 010264002f0000202000feffff4d000070170000f41a0000b4140000a4060000";
+
+struct Vehicle {
+    number: u64,
+    mass: u16,
+    braked_v: u16,
+    braked_m: u16,
+    length: u16,
+    axles: u8,
+    kind: u8,
+    setting: u8,
+    speed: u8,
+}
+
+fn expect(holds: bool, what: &str) -> Checked<()> {
+    if holds {
+        Ok(())
+    } else {
+        Err(what.into())
+    }
+}
+
+fn get(bytes: &[u8]) -> u64 {
+    bytes
+        .iter()
+        .rev()
+        .fold(0, |value, &byte| value << 8 | u64::from(byte))
+}
+
+fn record(v: Vehicle) -> [u8; VEHICLE] {
+    let mut record = [0; VEHICLE];
+    record[0..8].copy_from_slice(&v.number.to_le_bytes());
+    record[8..10].copy_from_slice(&v.mass.to_le_bytes());
+    record[10..12].copy_from_slice(&v.braked_v.to_le_bytes());
+    record[12..14].copy_from_slice(&v.braked_m.to_le_bytes());
+    record[14..16].copy_from_slice(&v.length.to_le_bytes());
+    record[16] = v.axles;
+    record[17] = v.kind;
+    record[18] = v.setting;
+    record[19] = 1; // joined to the brake pipe, or rule 17 would be broken
+    record[20] = v.speed;
+    record
+}
+
+fn train(wagon_braked_v: u16) -> [u8; TRAIN] {
+    let mut train = [0; TRAIN];
+    let (engine, wagons) = train.split_at_mut(VEHICLE);
+    engine.copy_from_slice(&record(Vehicle {
+        number: 1,
+        mass: 900,
+        braked_v: 1000,
+        braked_m: 800,
+        length: 200,
+        axles: 4,
+        kind: WORKING_ENGINE,
+        setting: SET_V,
+        speed: 140,
+    }));
+    for (wagon, number) in wagons.chunks_exact_mut(VEHICLE).zip(2..) {
+        wagon.copy_from_slice(&record(Vehicle {
+            number,
+            mass: 600,
+            braked_v: wagon_braked_v,
+            braked_m: 500,
+            length: 150,
+            axles: 4,
+            kind: WAGON,
+            setting: SET_V,
+            speed: 120,
+        }));
+    }
+    train
+}
+
+fn order() -> [u8; ORDER] {
+    let mut order = [0; ORDER];
+    order[0..5].fill(100); // the line's limit in all five columns
+    order[5] = 1; // asked: ME120/P120
+    order[8..12].copy_from_slice(&100_000_u32.to_le_bytes());
+    order[12..16].copy_from_slice(&100_000_u32.to_le_bytes());
+    order
+}
+
+/// Bytes 10 to 12 are two's complement: put at the top of an i32 and shifted down, they keep their sign.
+fn margin(sheet: &[u8; SHEET]) -> i32 {
+    i32::from_le_bytes([0, sheet[10], sheet[11], sheet[12]]) >> 8
+}
+
+fn print_sheet(sheet: &[u8; SHEET]) {
+    let category = |number: u8| CATEGORY[usize::from(number)];
+    let (asked, granted, speed) = (category(sheet[0]), category(sheet[1]), sheet[2]);
+    println!("  asked {asked}, granted {granted} at {speed} km/h");
+    println!("  margin {} t over {} percent", margin(sheet), sheet[13]);
+    for (name, &rule) in CATEGORY[1..].iter().zip(&sheet[4..9]) {
+        match rule {
+            0 => println!("  {name} breaks no rule"),
+            _ => println!("  {name} breaks rule {rule}"),
+        }
+    }
+    let (braked, hauled) = (get(&sheet[24..28]), get(&sheet[16..20]));
+    println!(
+        "  braked mass {}.{} t, hauled mass {}.{} t",
+        braked / 10,
+        braked % 10,
+        hauled / 10,
+        hauled % 10
+    );
+}
+
+fn whole_train(train: &[u8], order: &[u8], page: &str) -> Checked<[u8; SHEET]> {
+    let sheet = sheet_of_train(train, order)?;
+    let hex: String = sheet.iter().map(|byte| format!("{byte:02x}")).collect();
+    let line = format!("0 0 {hex}"); // number, place, sheet: the line that the program SHEET writes
+    println!("  {line}");
+    expect(line == page, page)?;
+    println!("  {}", Answer::DONE);
+    print_sheet(&sheet);
+    Ok(sheet)
+}
+
+/// Two yards account 3 and 7 wagons; whoever has the engine needs their two accounts and no wagon.
+fn by_portions(train: &[u8], order: &[u8], whole: &[u8; SHEET]) -> Checked<Account> {
+    let (engine, wagons) = train.split_at(VEHICLE);
+    let (front, back) = wagons.split_at(CUT - VEHICLE);
+    let (left, right) = (account_of(front)?, account_of(back)?);
+    let counts = (get(&left.0[0..4]), get(&right.0[0..4]));
+    expect(counts == (3, 7), "the accounts count 3 and 7 wagons")?;
+    let joined = join(&left, &right)?;
+    let sheet = sheet_of_account(engine, &joined, order)?;
+    println!("  {}", Answer::DONE);
+    expect(sheet == *whole, "the sheet does not depend on the cut")?;
+    println!("  byte for byte the same sheet");
+    Ok(joined)
+}
+
+/// The wagons tie at 120 km/h, so the first of them answers; the engine may do 140.
+fn speed_holder(train: &[u8]) -> Checked<()> {
+    let (front, back) = train.split_at(CUT);
+    let vehicle = holds_the_speed(front, back).ok_or("a vehicle holds the speed")?;
+    println!("  number {}, {} km/h", get(&vehicle[0..8]), vehicle[20]);
+    let first_wagon = &train[VEHICLE..2 * VEHICLE];
+    expect(vehicle == first_wagon, "the first wagon holds the speed")
+}
+
+fn refused(answer: Answer, refusal: Refusal, sheet: &[u8; SHEET]) -> Checked<()> {
+    match answer.done() {
+        Ok(()) => println!("  {answer}"),
+        Err(given) => println!("  {given}"),
+    }
+    expect(answer.done() == Err(refusal), &refusal.to_string())?;
+    expect(
+        *sheet == [0xaa; SHEET],
+        "a refused sheet is not written at all",
+    )?;
+    println!("  the sheet was left as it was");
+    Ok(())
+}
+
+fn tour() -> Checked<()> {
+    let (mut train_a, train_b, order) = (train(500), train(430), order());
+
+    println!("The whole train, its wagons braked with 50.0 t each (case A)");
+    let whole = whole_train(&train_a, &order, CASE_A)?;
+    println!("The whole train, its wagons braked with 43.0 t each (case B)");
+    whole_train(&train_b, &order, CASE_B)?;
+    println!("Case A again, from the engine and the joined accounts of 3 and 7 wagons");
+    let mut account = by_portions(&train_a, &order, &whole)?;
+    println!("The vehicle that holds the speed");
+    speed_holder(&train_a)?;
+
+    let mut sheet = [0xaa; SHEET]; // a mark that no refused call may touch
+    println!("A fourth vehicle with 25 axles");
+    train_a[3 * VEHICLE + 16] = 25;
+    let (number, place) = (3, 3);
+    let answer = write_sheet_of_train(&train_a, &order, &mut sheet);
+    refused(answer, Refusal { number, place }, &sheet)?;
+    println!("An account with byte 63 set to 1");
+    account.0[63] = 1;
+    let (number, place) = (7, 0);
+    let answer = write_sheet_of_account(&train_a[..VEHICLE], &account, &order, &mut sheet);
+    refused(answer, Refusal { number, place }, &sheet)
+}
+
+fn main() -> ExitCode {
+    match tour() {
+        Ok(()) => ExitCode::SUCCESS,
+        Err(what) => {
+            eprintln!("not as document 01 says: {what}");
+            ExitCode::FAILURE
+        }
+    }
+}
