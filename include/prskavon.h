@@ -1,7 +1,7 @@
 /* Prskavon: the brake sheet of a freight train between France and Germany.
  *
- * Build the archive with `rt staticlib exports` and link it: cc program.c target/staticlib/libexports.a (x86-64 Linux;
- * of the C library it needs memcpy alone). Every function takes any bytes and always returns. There is no state and no
+ * Build the archive with `rt staticlib exports` and link it: cc -I include program.c target/staticlib/libexports.a
+ * (x86-64 Linux; of the C library it needs memcpy alone). Every function takes any bytes and always returns. There is no state and no
  * allocation, so calls may run on several threads at once. docs/LEAFLET.md says what each number and rule means.
  *
  * BUFFERS
@@ -61,7 +61,7 @@
  *     4-8    first rule broken by categories 1 to 5, or 0; all hold the common rule where there is one
  *     9      records with D load
  *     10-12  margin of the asked category in whole tonnes, rounded toward minus infinity, two's complement
- *     13     percentage of the asked category
+ *     13     p of the asked category: the greater of its own percentage and the order's byte 6
  *     14     1 when 1 to 3 is asked and the hauled mass is above 1,200 t, else 0
  *     15     isolated records
  *     16-19  hauled mass
@@ -88,7 +88,7 @@
  *     31     an engine stands behind a wagon                          1
  *     32     rule 16 is broken: a record set to R                     1
  *     33     rule 17 is broken: a record not joined to the pipe       1
- *     34     rule 18 is broken: a wagon's Matrossow brake             1
+ *     34     rule 18 is broken: a wagon, byte 21 set, not isolated    1
  *     35     slowest speed                                          200
  *     36-40  settings of the first five, 4 where there is none        4 each
  *     41-63  not used                                                 0 each

@@ -116,7 +116,7 @@ pub enum Inputs {
 }
 
 /// The longest buffer that is lent, with room behind it to see a write past its end.
-pub const BUFFER: usize = 128;
+pub const BUFFER: usize = 160;
 
 #[derive(Clone, Debug)]
 pub struct Call {

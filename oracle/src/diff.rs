@@ -139,7 +139,7 @@ impl<'a, S: Side> Case<'a, S> {
                 call.function().name(),
                 call.describe(),
                 shown(model),
-                hex(&expected[..call.room]),
+                hex(&expected),
                 shown(library),
                 hex(&found),
             ));

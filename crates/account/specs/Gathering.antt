@@ -1,4 +1,4 @@
--- The account as one loop gathers it: figures that no setting parts, figures by setting, and the first five.
+-- The account as one loop gathers it: sums by setting, the other figures, and the first five. Private functions promise it to each other; no public contract reads it.
 use Prim.Native.Nat.{ℕ, _+_, _<_, _^_, min, max}
 use mathlib.Core.Path.{_≡_}
 use mathlib.Core.Bool.{Bool, not, _&&_, _||_, cond}

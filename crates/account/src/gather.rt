@@ -16,7 +16,7 @@ use crate::joining::sum;
 use record::vehicle::SIZE;
 use record::vehicle::Vehicle;
 
-// The figures that no setting parts, and how many are joined.
+// The figures that are not sums by setting, and how many records are joined.
 pub struct Running {
     pub mass: u32,
     pub length: u32,
@@ -75,7 +75,7 @@ pub fn with_one(so_far: Running, v: Vehicle) -> Running
     }
 }
 
-// A figure by setting: an index where a test for each setting would be.
+// Adds to the figure of a setting: an index in place of four tests.
 pub fn add_at(figure: &mut [u32; 4], setting: u32, x: u32)
     requires { ⌜ (setting < 4) × (getD (now figure) setting 0 + x < 2 ^ 32) ⌝ }
     ensures { λ _. ⌜ now (figure .exit) ≡ set (now (figure .entry)) setting (getD (now (figure .entry)) setting 0 + x) ⌝ }
@@ -83,7 +83,7 @@ pub fn add_at(figure: &mut [u32; 4], setting: u32, x: u32)
     figure[setting as usize] = figure[setting as usize] + x;
 }
 
-// The setting at place `i`, where it is one of the first five.
+// Sets the setting at place `i`, where it is one of the first five.
 pub fn set_at(first: &mut [u32; 5], i: usize, setting: u32)
     requires { ⌜ length (now first) ≡ 5 ⌝ }
     ensures { λ _. ⌜ now (first .exit) ≡ set (now (first .entry)) i setting ⌝ }
@@ -94,7 +94,7 @@ pub fn set_at(first: &mut [u32; 5], i: usize, setting: u32)
 }
 
 // How many records from the first on have `x` at byte `at`.
-fn run_of(portion: &[u8], at: usize, x: u8) -> usize
+fn leading_with(portion: &[u8], at: usize, x: u8) -> usize
     requires { ⌜ at < 24 ⌝ }
     ensures { λ r. ⌜ r ≡ leading (hasByte at x) (recordsOf (now (portion .entry))) ⌝ }
 {
@@ -109,23 +109,24 @@ fn run_of(portion: &[u8], at: usize, x: u8) -> usize
     n
 }
 
-// The account of a portion, out of what was gathered of it.
+// The account of a portion, out of what was gathered of it. Settings: 0 isolated, 1 M, 2 V, 3 R.
 pub fn account_from(
     portion: &[u8],
     running: Running,
     counts: [u32; 4],
     vmasses: [u32; 4],
     mmasses: [u32; 4],
-    vaxles: [u32; 4],
+    axles: [u32; 4],
     first: [u32; 5],
 ) -> Account
     requires { ⌜ recordCount (now portion) ≤ 200 ⌝ }
-    requires { ⌜ Gathered (vehicles (now portion)) running counts vmasses mmasses vaxles first ⌝ }
+    requires { ⌜ Gathered (vehicles (now portion)) running counts vmasses mmasses axles first ⌝ }
     ensures { λ r. ⌜ r ≡ accountOf (vehicles (now (portion .entry))) ⌝ }
 {
     let count = (portion.len() / SIZE) as u32;
-    let leading = run_of(portion, 18, 0) as u32;
-    let engines_ahead = run_of(portion, 17, 1) as u32;
+    // byte 18, the setting; byte 17, the kind
+    let leading = leading_with(portion, 18, 0) as u32;
+    let engines_ahead = leading_with(portion, 17, 1) as u32;
     Account {
         count: count,
         mass: running.mass,
@@ -133,7 +134,7 @@ pub fn account_from(
         mmass: mmasses[1],
         length: running.length,
         axles: running.axles,
-        vaxles: vaxles[2],
+        vaxles: axles[2],
         engines: running.engines,
         mset: counts[1],
         isolated: counts[0],

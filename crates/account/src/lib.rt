@@ -121,7 +121,7 @@ pub fn account_of(portion: &[u8]) -> Accounted
     let mut counts = [0u32; 4];
     let mut vmasses = [0u32; 4];
     let mut mmasses = [0u32; 4];
-    let mut vaxles = [0u32; 4];
+    let mut axles = [0u32; 4];
     let mut first = [4u32; 5];
     let mut i = 0;
     while i < n {
@@ -135,12 +135,12 @@ pub fn account_of(portion: &[u8]) -> Accounted
         add_at(&mut counts, vehicle.setting, 1);
         add_at(&mut vmasses, vehicle.setting, vehicle.vmass);
         add_at(&mut mmasses, vehicle.setting, vehicle.mmass);
-        add_at(&mut vaxles, vehicle.setting, vehicle.axles);
+        add_at(&mut axles, vehicle.setting, vehicle.axles);
         set_at(&mut first, i, vehicle.setting);
         running = with_one(running, vehicle);
         i += 1;
     }
-    done(account_from(portion, running, counts, vmasses, mmasses, vaxles, first))
+    done(account_from(portion, running, counts, vmasses, mmasses, axles, first))
 }
 
 // Whether an account has no figure above its ceiling; 7 is for the rest.

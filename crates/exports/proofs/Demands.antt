@@ -1,30 +1,70 @@
 -- What a program that links the static library may rely on: the theorems, over the definitions of specs/. Assumes nothing.
 use Prim.Native.Nat.{ℕ, _/_, _%_, _≤_, _<_}
-use mathlib.Core.Path.{_≡_, refl}
-use mathlib.Core.List.{List, _++_}
+use mathlib.Core.Path.{_≡_, refl, sym}
+use mathlib.Core.Logic.{_⊎_}
+use mathlib.Core.Bool.{true, false, not, _&&_, _||_}
+use mathlib.Core.List.{List, [], _++_}
 use native.Mathlib.Omega.{arith}
 use lib.ListN.{length, drop}
-use Rattle.account.specs.Answers.{numberOf, placeOf}
+use Rattle.record.specs.Words.{_is_}
+use Rattle.record.specs.Records.{isWhole}
+use Rattle.account.specs.Answers as account
+use Rattle.account.specs.Portions.{accounted, joined}
 use Rattle.account.specs.declared.Accounted.{Accounted}
-use Rattle.travel.specs.AccountRecords.{recordOf}
-use Rattle.exports.specs.Lent.{oneNumber, lentNumber, lentAccount}
-use Rattle.exports.proofs.Lent.{lent-not-done, lent-refused, lent-short, lent-done}
+use Rattle.account.specs.declared.Answer.the-variants.{Done}
+use Rattle.judge.specs.Answers.{numberOf, placeOf, accountAnswer, accountSheet}
+use Rattle.judge.specs.declared.Answer.{Answer}
+use Rattle.travel.specs.AccountRecords.{isAccount, offered, recordOf}
+use Rattle.exports.specs.Lent.{oneNumber, sheetNumber, lentNumber, lentAccount, lentVehicle}
+use Rattle.exports.proofs.Lent.{number-small, done-number, lent-not-done, lent-refused, lent-short, lent-done, lent-or-none}
+use Rattle.exports.proofs.Carried.{join-refused-seven, join-other-number, sheet-refused-seven, portion-back, join-back}
 
--- ---- the answer as one number
-pub number-back : (number place : ℕ) → number < 256 → oneNumber number place % 256 ≡ number
-number-back number place h = omega arith
+-- ---- the answer as one number: its two parts are had from it
+pub number-back : (answer : Answer) → sheetNumber answer % 256 ≡ numberOf answer
+number-back answer = omega (arith, number-small answer)
 
-pub place-back : (number place : ℕ) → number < 256 → oneNumber number place / 256 ≡ place
-place-back number place h = omega arith
+pub place-back : (answer : Answer) → sheetNumber answer / 256 ≡ placeOf answer
+place-back answer = omega (arith, number-small answer)
 
 -- ---- an account that is lent: its own refusals first, then 5, and a refused call writes nothing
-pub own-refusals-first : (r : Accounted) (room : List ℕ) → (numberOf (r .answer) ≡ 0 → ⊥)
-    → (oneNumber (numberOf (r .answer)) (placeOf (r .answer)) ≡ lentNumber r (length room)) × (room ≡ lentAccount r room)
-own-refusals-first r room h = lent-refused r room _ refl (lent-not-done r h)
+module _ (r : Accounted) (room : List ℕ) where
+  pub own-refusals-first : (account.numberOf (r .answer) ≡ 0 → ⊥)
+      → (lentNumber r (length room) ≡ oneNumber (account.numberOf (r .answer)) (account.placeOf (r .answer))) × (lentAccount r room ≡ room)
+  own-refusals-first h =
+      let l = lent-refused r room _ refl (lent-not-done r h) in
+      (sym (l .0), sym (l .1))
 
-pub then-five : (r : Accounted) (room : List ℕ) → oneNumber (numberOf (r .answer)) (placeOf (r .answer)) ≡ 0 → length room < 64 → (5 ≡ lentNumber r (length room)) × (room ≡ lentAccount r room)
-then-five r room = lent-short r room _ refl
+  pub then-five : account.numberOf (r .answer) ≡ 0 → length room < 64 → (lentNumber r (length room) ≡ 5) × (lentAccount r room ≡ room)
+  then-five e h =
+      let l = lent-short r room _ refl (done-number (r .answer) e) h in
+      (sym (l .0), sym (l .1))
 
-pub done-writes-64 : (r : Accounted) (room : List ℕ) → oneNumber (numberOf (r .answer)) (placeOf (r .answer)) ≡ 0 → 64 ≤ length room
-    → (0 ≡ lentNumber r (length room)) × (recordOf (r .account) ++ drop 64 room ≡ lentAccount r room)
-done-writes-64 r room = lent-done r room _ refl
+  pub done-writes-64 : account.numberOf (r .answer) ≡ 0 → 64 ≤ length room → (lentNumber r (length room) ≡ 0) × (lentAccount r room ≡ recordOf (r .account) ++ drop 64 room)
+  done-writes-64 e h =
+      let l = lent-done r room _ refl (done-number (r .answer) e) h in
+      (sym (l .0), sym (l .1))
+
+-- ---- bytes that are no account: 7 in its place, and nothing is written
+pub join-seven : (left right room : List ℕ) → (isAccount left && isAccount right) ≡ false
+    → (lentNumber (joined (offered left) (offered right)) (length room) ≡ 7) × (lentAccount (joined (offered left) (offered right)) room ≡ room)
+join-seven = join-refused-seven
+
+pub join-seven-only : (left right : List ℕ) (room : ℕ) → (isAccount left && isAccount right) ≡ true → lentNumber (joined (offered left) (offered right)) room ≡ 7 → ⊥
+join-seven-only = join-other-number
+
+-- behind 1, which is for engines that are none or not whole records
+pub sheet-seven : (engines hauled order : List ℕ) → (length engines is 0 || not (isWhole engines)) ≡ false → isAccount hauled ≡ false → (sheet : List ℕ)
+    → (sheetNumber (accountAnswer engines (offered hauled) order (length sheet)) ≡ 7) × (accountSheet engines (offered hauled) order sheet ≡ sheet)
+sheet-seven = sheet-refused-seven
+
+-- ---- what is written reads back
+pub written-portion-back : (bs : List ℕ) → accounted bs .answer ≡ Done → offered (recordOf (accounted bs .account)) ≡ accounted bs .account
+written-portion-back = portion-back
+
+pub written-join-back : (left right : List ℕ) → joined (offered left) (offered right) .answer ≡ Done
+    → offered (recordOf (joined (offered left) (offered right) .account)) ≡ joined (offered left) (offered right) .account
+written-join-back = join-back
+
+-- ---- the vehicle that holds the speed
+pub twenty-four-or-none : (front back : List ℕ) (room : ℕ) → (length (lentVehicle front back room) ≡ 24) ⊎ (lentVehicle front back room ≡ [])
+twenty-four-or-none = lent-or-none

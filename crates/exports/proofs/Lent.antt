@@ -1,12 +1,13 @@
 -- Laws of what is answered and lent: a number is small, and a place is that of one of 200 records. Assumes nothing.
-use Prim.Native.Nat.{ℕ, zero, suc, _+_, _≤_, _<_}
+use Prim.Native.Nat.{ℕ, zero, suc, _+_, _*_, _≤_, _<_}
 use mathlib.Core.Path.{_≡_, refl, sym, ap, _∙_}
 use mathlib.Core.Bool.{Bool, true, false, not, _||_, _&&_, cond}
 use mathlib.Core.List.{List, [], _∷_, _++_}
+use mathlib.Core.Logic.{_⊎_, inl, inr, ⊎-elim}
 use native.Mathlib.Omega.{arith}
 use borrow.Author.Tests.{ltb-false, lt-ltb, le-ltb, eq-eqb, ne-eqb}
-use lib.ListN.{length, take, drop, length-take}
-use lib.Seq.{take-all}
+use lib.ListN.{length, take, drop, length-drop}
+use lib.Seq.{take-all, length-take-le}
 use Rattle.record.specs.Words.{_is_, _above_, _atMost_, all, leading, Every, Case, firstOf}
 use Rattle.record.specs.Records.{records, recordCount, recordsOf, isWhole}
 use Rattle.record.specs.Vehicles.{good, vehicles, isWorking}
@@ -106,6 +107,9 @@ pub join-place : (left right : Account) → account.placeOf (joined left right .
 unfolding joinRefusals
 join-place left right = first-place account.placeOf account-case.Done (joinRefusals left right) (omega arith) (omega arith)
 
+pub done-number : (answer : account-answer.Answer) → account.numberOf answer ≡ 0 → oneNumber (account.numberOf answer) (account.placeOf answer) ≡ 0
+done-number answer e = omega (arith, done-place answer e)
+
 pub lent-not-done : (r : Accounted) → (account.numberOf (r .answer) ≡ 0 → ⊥) → oneNumber (account.numberOf (r .answer)) (account.placeOf (r .answer)) ≡ 0 → ⊥
 lent-not-done r h e = h (omega (arith, e))
 
@@ -138,31 +142,36 @@ module _ (r : Accounted) (room : List ℕ) (n : ℕ) (answered : n ≡ oneNumber
 pub copied : (to : List ℕ) {from want : List ℕ} → from ≡ want → take (length from) from ++ drop (length from) to ≡ want ++ drop (length want) to
 copied to {from} {want} e = ap (λ (l : List ℕ). take (length l) l ++ drop (length l) to) e ∙ ap (λ (l : List ℕ). l ++ drop (length want) to) (take-all (length want) want (omega arith))
 
-first-with-fits : (p : List ℕ → Bool) (rs : List (List ℕ)) → Every (λ r. length r ≤ 24) rs → length (firstWith p rs) ≤ 24
+first-with-one : (P : List ℕ → Type 0) (p : List ℕ → Bool) (rs : List (List ℕ)) → Every P rs → P (firstWith p rs) ⊎ (firstWith p rs ≡ [])
 unfolding firstWith
-first-with-fits p [] h = omega arith
-first-with-fits p (r ∷ rs) h = go (p r) (first-with-fits p rs (h .1))
+first-with-one P p [] h = inr refl
+first-with-one P p (r ∷ rs) h = go (p r) (first-with-one P p rs (h .1))
   where
-    go : (b : Bool) → length (firstWith p rs) ≤ 24 → length (cond b r (firstWith p rs)) ≤ 24
-    go true e = h .0
+    go : (b : Bool) → P (firstWith p rs) ⊎ (firstWith p rs ≡ []) → P (cond b r (firstWith p rs)) ⊎ (cond b r (firstWith p rs) ≡ [])
+    go true e = inl (h .0)
     go false e = e
 
 every-append : {A : Type 0} (P : A → Type 0) (xs ys : List A) → Every P xs → Every P ys → Every P (xs ++ ys)
 every-append P [] ys h k = k
 every-append P (x ∷ xs) ys h k = (h .0, every-append P xs ys (h .1) k)
 
-records-fit : (n : ℕ) (bs : List ℕ) → Every (λ r. length r ≤ 24) (records n bs)
+records-long : (n : ℕ) (bs : List ℕ) → 24 * n ≤ length bs → Every (λ r. length r ≡ 24) (records n bs)
 unfolding records
-records-fit zero bs = tt
-records-fit (suc n) bs = (omega (arith, length-take 24 bs), records-fit n (drop 24 bs))
+records-long zero bs h = tt
+records-long (suc n) bs h = (length-take-le 24 bs (omega arith), records-long n (drop 24 bs) (omega (arith, length-drop 24 bs)))
+
+pub vehicle-or-none : (front back : List ℕ) → (length (holdsTheSpeed front back) ≡ 24) ⊎ (holdsTheSpeed front back ≡ [])
+unfolding holdsTheSpeed slowestOf
+vehicle-or-none front back = go (wholeGood front && wholeGood back && recordCount front + recordCount back atMost 200)
+  where
+    go : (b : Bool) → (length (cond b (slowestOf (recordsOf front ++ recordsOf back)) []) ≡ 24) ⊎ (cond b (slowestOf (recordsOf front ++ recordsOf back)) [] ≡ [])
+    go true =
+        first-with-one (λ (r : List ℕ). length r ≡ 24) _ (recordsOf front ++ recordsOf back)
+        (every-append (λ (r : List ℕ). length r ≡ 24) (recordsOf front) (recordsOf back) (records-long (recordCount front) front (omega arith)) (records-long (recordCount back) back (omega arith)))
+    go false = inr refl
 
 pub vehicle-fits : (front back : List ℕ) → length (holdsTheSpeed front back) ≤ 24
-unfolding holdsTheSpeed slowestOf
-vehicle-fits front back = go (wholeGood front && wholeGood back && recordCount front + recordCount back atMost 200)
-  where
-    go : (b : Bool) → length (cond b (slowestOf (recordsOf front ++ recordsOf back)) []) ≤ 24
-    go true = first-with-fits _ (recordsOf front ++ recordsOf back) (every-append (λ (r : List ℕ). length r ≤ 24) (recordsOf front) (recordsOf back) (records-fit (recordCount front) front) (records-fit (recordCount back) back))
-    go false = omega arith
+vehicle-fits front back = ⊎-elim (λ (e : length (holdsTheSpeed front back) ≡ 24). omega arith) (λ (e : holdsTheSpeed front back ≡ []). omega (arith, ap length e)) (vehicle-or-none front back)
 
 module _ (front back : List ℕ) (room : ℕ) where
   pub vehicle-none : room < 24 → [] ≡ lentVehicle front back room
@@ -172,3 +181,11 @@ module _ (front back : List ℕ) (room : ℕ) where
   pub vehicle-there : 24 ≤ room → holdsTheSpeed front back ≡ lentVehicle front back room
   unfolding lentVehicle
   vehicle-there h = rw (le-ltb room 24 h)
+
+  pub lent-or-none : (length (lentVehicle front back room) ≡ 24) ⊎ (lentVehicle front back room ≡ [])
+  unfolding lentVehicle
+  lent-or-none = go (24 above room)
+    where
+      go : (b : Bool) → (length (cond b [] (holdsTheSpeed front back)) ≡ 24) ⊎ (cond b [] (holdsTheSpeed front back) ≡ [])
+      go true = inr refl
+      go false = vehicle-or-none front back

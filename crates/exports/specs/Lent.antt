@@ -30,3 +30,7 @@ lentAccount r room = cond (lentNumber r (length room) is 0) (recordOf (r .accoun
 -- the vehicle that holds the speed, where there is one and room for its 24 bytes
 unfoldable pub lentVehicle : List ℕ → List ℕ → ℕ → List ℕ
 lentVehicle front back room = cond (24 above room) [] (holdsTheSpeed front back)
+
+-- and the room that it is copied into
+abbrev pub lentRoom : List ℕ → List ℕ → List ℕ → List ℕ
+lentRoom front back room = lentVehicle front back (length room) ++ drop (length (lentVehicle front back (length room))) room

@@ -1,12 +1,11 @@
 // The C functions that a yard's or a partner's program links; include/prskavon.h documents them.
 ghost use mathlib.Core.Path.{_≡_};
-ghost use mathlib.Core.List.{_++_};
 ghost use Prim.Native.Nat.{_≤_};
-ghost use lib.ListN.{length, drop};
+ghost use lib.ListN.{length};
 ghost use Rattle.account.specs.Portions.{accounted, joined};
 ghost use Rattle.judge.specs.Answers.{placeOf, trainAnswer, trainSheet, accountAnswer, accountSheet};
 ghost use Rattle.travel.specs.AccountRecords.{offered};
-ghost use Rattle.exports.specs.Lent.{sheetNumber, lentNumber, lentAccount, lentVehicle};
+ghost use Rattle.exports.specs.Lent.{sheetNumber, lentNumber, lentAccount, lentVehicle, lentRoom};
 use account::account_of;
 use account::holds_the_speed;
 use account::join;
@@ -16,6 +15,7 @@ use judge::Answer;
 use judge::sheet_of_account;
 use judge::sheet_of_train;
 use lend::lend;
+use record::vehicle::SIZE;
 use travel::offered_by;
 
 mod lend;
@@ -77,9 +77,9 @@ pub extern "C" fn prskavon_holds_the_speed<'a>(
     vehicle: &mut [u8],
 ) -> usize
     ensures { λ r. ⌜ r ≡ length (lentVehicle (now (front .entry)) (now (back .entry)) (length (now (vehicle .entry)))) ⌝ }
-    ensures { λ _. ⌜ now (vehicle .exit) ≡ lentVehicle (now (front .entry)) (now (back .entry)) (length (now (vehicle .entry))) ++ drop (length (lentVehicle (now (front .entry)) (now (back .entry)) (length (now (vehicle .entry))))) (now (vehicle .entry)) ⌝ }
+    ensures { λ _. ⌜ now (vehicle .exit) ≡ lentRoom (now (front .entry)) (now (back .entry)) (now (vehicle .entry)) ⌝ }
 {
-    if vehicle.len() < 24 {
+    if vehicle.len() < SIZE {
         return 0;
     }
     let part = holds_the_speed(front, back);

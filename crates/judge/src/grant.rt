@@ -82,13 +82,13 @@ pub fn decide(f: Facts, o: Order) -> Decision
     ensures { λ r. ⌜ r ≡ decisionOf f o ⌝ }
 {
     let common = first_common(f);
-    let p = first_middle(Category::Me120P120, f, o);
-    let g = first_middle(Category::Ma100G100, f, o);
-    let x1 = offered(common, p, Category::Me120P120, f, o);
-    let x2 = offered(common, p, Category::Me100P100, f, o);
-    let x3 = offered(common, p, Category::Ma100P100, f, o);
-    let x4 = offered(common, g, Category::Ma100G100, f, o);
-    let x5 = offered(common, g, Category::Ma90G90, f, o);
+    let middle_p = first_middle(Category::Me120P120, f, o);
+    let middle_g = first_middle(Category::Ma100G100, f, o);
+    let x1 = offered(common, middle_p, Category::Me120P120, f, o);
+    let x2 = offered(common, middle_p, Category::Me100P100, f, o);
+    let x3 = offered(common, middle_p, Category::Ma100P100, f, o);
+    let x4 = offered(common, middle_g, Category::Ma100G100, f, o);
+    let x5 = offered(common, middle_g, Category::Ma90G90, f, o);
     let none = Best {
         number: 0,
         speed: 0,

@@ -14,7 +14,7 @@ use Rattle.record.specs.Vehicles.{field, fieldGood}
 use Rattle.record.proofs.Vehicles.{both}
 use Rattle.account.specs.Ceilings.{within, Within}
 use Rattle.account.specs.declared.Account.{Account}
-use Rattle.travel.specs.AccountRecords.{figureAt, accountIn, marksAndUnused, isPlain, isAccount, above, offered, mark, recordOf}
+use Rattle.travel.specs.AccountRecords.{figureAt, accountIn, marksAndUnused, isPlain, isAccount, aboveCeiling, offered, mark, recordOf}
 
 -- a test of the code is its row's
 pub at-most : (bs : List ℕ) (s w high : ℕ) {x : ℕ} → x ≡ figureAt s w bs → leb x high ≡ fieldGood bs (field s w 0 high)
@@ -34,7 +34,7 @@ module _ (bs : List ℕ) where
   unfolding isPlain
   long-plain e = eqb-true (length bs) 64 (both (length bs is 64) (all (fieldGood bs) marksAndUnused) e .0)
 
-  pub offered-by-test : (b : Bool) → isPlain bs ≡ b → accountIn (cond b bs above) ≡ offered bs
+  pub offered-by-test : (b : Bool) → isPlain bs ≡ b → accountIn (cond b bs aboveCeiling) ≡ offered bs
   unfolding offered
   offered-by-test b e = rw e
 
@@ -43,7 +43,7 @@ pub offered-within : (bs : List ℕ) → within (offered bs) ≡ isAccount bs
 unfolding offered within accountIn littleEndian all
 offered-within bs = go (isPlain bs)
   where
-    go : (b : Bool) → within (accountIn (cond b bs above)) ≡ (b && within (accountIn bs))
+    go : (b : Bool) → within (accountIn (cond b bs aboveCeiling)) ≡ (b && within (accountIn bs))
     go true = refl
     go false = refl
 

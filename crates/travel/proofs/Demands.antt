@@ -8,13 +8,13 @@ use Rattle.account.specs.declared.Account.{Account}
 use Rattle.travel.specs.AccountRecords.{isAccount, offered, recordOf}
 use Rattle.travel.proofs.AccountRecords.{offered-within, record-back}
 
--- reading what was written gives the account back
+-- reading what was written gives the account back, which has five first settings
 pub read-back : (a : Account) → Within a → length (a .first) ≡ 5 → offered (recordOf a) ≡ a
 read-back = record-back
 
--- bytes are refused by 7 exactly where they are not 64, or a figure, mark or unused byte is above its ceiling
-pub seven-exactly : (bs : List ℕ) → within (offered bs) ≡ isAccount bs
-seven-exactly = offered-within
+-- what bytes offer is within its ceilings exactly when they are 64 and no figure, mark or unused byte is above its ceiling
+pub within-exactly : (bs : List ℕ) → within (offered bs) ≡ isAccount bs
+within-exactly = offered-within
 
 pub sixty-four : (a : Account) → length (recordOf a) ≡ 64
 sixty-four a = refl

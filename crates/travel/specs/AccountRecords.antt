@@ -68,12 +68,12 @@ abbrev pub isAccount : List ℕ → Bool
 isAccount bs = isPlain bs && within (accountIn bs)
 
 -- a record whose count is above its ceiling
-abbrev pub above : List ℕ
-above = 201 ∷ replicate 63 0
+abbrev pub aboveCeiling : List ℕ
+aboveCeiling = 201 ∷ replicate 63 0
 
 -- the account that bytes offer; where they are not plain one above its ceiling stands, so that 7 keeps its place in each order
 unfoldable pub offered : List ℕ → Account
-offered bs = accountIn (cond (isPlain bs) bs above)
+offered bs = accountIn (cond (isPlain bs) bs aboveCeiling)
 
 abbrev pub mark : Bool → ℕ
 mark holds = cond holds 1 0

@@ -2,7 +2,7 @@
 ghost use mathlib.Core.Path.{_≡_};
 ghost use Prim.Native.Nat.{_+_, _≤_};
 ghost use lib.ListN.{length};
-ghost use Rattle.travel.specs.AccountRecords.{figureAt, accountIn, isPlain, above, offered, mark, recordWith, recordOf};
+ghost use Rattle.travel.specs.AccountRecords.{figureAt, accountIn, isPlain, aboveCeiling, offered, mark, recordWith, recordOf};
 use account::Account;
 use record::number::number;
 
@@ -84,7 +84,7 @@ fn is_plain(bytes: &[u8]) -> bool
 
 // An account above its ceiling, where bytes are none.
 fn above_ceiling() -> Account
-    ensures { λ r. ⌜ r ≡ accountIn above ⌝ }
+    ensures { λ r. ⌜ r ≡ accountIn aboveCeiling ⌝ }
 {
     Account {
         count: 201,
@@ -200,7 +200,7 @@ fn mark_of(holds: bool) -> u8
     if holds { 1 } else { 0 }
 }
 
-// The 64 bytes of an account.
+// The 64 bytes of an account within its ceilings; a greater figure is cut to its bytes.
 pub fn record_of(a: Account) -> [u8; 64]
     ensures { λ r. ⌜ r ≡ recordOf a ⌝ }
 {

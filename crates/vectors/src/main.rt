@@ -3,7 +3,7 @@ use libc::STDIN_FILENO;
 use libc::STDOUT_FILENO;
 use record::number::number;
 
-// More than two bytes can announce.
+// Longer than the buffer, and so no input.
 const NONE: usize = 65_537;
 
 // How long the next input is.
@@ -36,6 +36,7 @@ fn answer_next(buffer: &mut [u8]) -> bool {
     true
 }
 
+// At most 65,536 inputs, so that it ends.
 fn main() {
     let mut space = io::large_buffer();
     let buffer: &mut [u8] = &mut space;

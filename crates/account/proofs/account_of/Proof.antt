@@ -32,13 +32,13 @@ use Rattle.account.proofs.done.Reads as done-reads
 use Rattle.record.proofs.vehicle.read.Reads as read-reads
 
 abbrev Inv-loop : tie.InvT-loop
-Inv-loop portion n running₀ counts₀ vmasses₀ mmasses₀ vaxles₀ first₀ i₀ running counts vmasses mmasses vaxles first i =
+Inv-loop portion n running₀ counts₀ vmasses₀ mmasses₀ axles₀ first₀ i₀ running counts vmasses mmasses axles first i =
     (i ≤ n)
     × (all good (records i portion) ≡ true)
-    × Gathered (map vehicle (records i portion)) running counts vmasses mmasses vaxles first
+    × Gathered (map vehicle (records i portion)) running counts vmasses mmasses axles first
 
 abbrev μ-loop : tie.MeasureT-loop
-μ-loop portion n running₀ counts₀ vmasses₀ mmasses₀ vaxles₀ first₀ i₀ running counts vmasses mmasses vaxles first i = n - i
+μ-loop portion n running₀ counts₀ vmasses₀ mmasses₀ axles₀ first₀ i₀ running counts vmasses mmasses axles first i = n - i
 
 refused-requires : tie.Need-refused-requires Inv-loop μ-loop
 refused-requires c κs = search needs
@@ -119,7 +119,7 @@ Here = lts.Else3 (refused-reads.Asked, refused-reads.Learnt, none-yet-reads.Aske
 
 here : (e : Here)
     → let l = e .before .before .before .before .before .before .before .before .loop in
-    Turn (now (e .before .before .before .before .before .before .before .before .before .before .before .before .before .args .portion)) (l .i) (e .before .before .before .vehicle .given .0 .0) (l .running) (l .counts) (l .vmasses) (l .mmasses) (l .vaxles) (l .first)
+    Turn (now (e .before .before .before .before .before .before .before .before .before .before .before .before .before .args .portion)) (l .i) (e .before .before .before .vehicle .given .0 .0) (l .running) (l .counts) (l .vmasses) (l .mmasses) (l .axles) (l .first)
 here e =
     let s = e .before .before .before .before .before .before .before .before in
     turn (now (s .before .before .before .before .before .args .portion)) (s .loop .i) _ (sym (e .before .before .before .vehicle .given .1) ∙ e .before .before .before .before .before .read .ensures) (e .if3 .left) (omega (arith, s .before .before .if2 .left)) _ _ _ _ _ _ (s .loop .inv .2)

@@ -22,21 +22,21 @@ use Rattle.account.proofs.gather.account_from.Tie as tie
 cast-count : tie.Need-cast-count
 cast-count c = search needs
 
-run-of-requires : tie.Need-run-of-requires
-run-of-requires c κs = search needs
+leading-with-requires : tie.Need-leading-with-requires
+leading-with-requires c κs = search needs
 
 cast-leading : tie.Need-cast-leading
 cast-leading c =
     let bs = now (c .before .before .args .portion) in
-    omega (arith, c .before .before .pre .0, c .run-of .ensures, leading-le (hasByte 18 0) (recordsOf bs), length-records (recordCount bs) bs)
+    omega (arith, c .before .before .pre .0, c .leading-with .ensures, leading-le (hasByte 18 0) (recordsOf bs), length-records (recordCount bs) bs)
 
-run-of-requires-2 : tie.Need-run-of-requires-2
-run-of-requires-2 c κs = search needs
+leading-with-requires-2 : tie.Need-leading-with-requires-2
+leading-with-requires-2 c κs = search needs
 
 cast-engines-ahead : tie.Need-cast-engines-ahead
 cast-engines-ahead c =
     let bs = now (c .before .before .before .args .portion) in
-    omega (arith, c .before .before .before .pre .0, c .run-of2 .ensures, leading-le (hasByte 17 1) (recordsOf bs), length-records (recordCount bs) bs)
+    omega (arith, c .before .before .before .pre .0, c .leading-with2 .ensures, leading-le (hasByte 17 1) (recordsOf bs), length-records (recordCount bs) bs)
 
 array-read-t19 : tie.Need-array-read-t19
 array-read-t19 c = search needs
@@ -76,11 +76,11 @@ returns c =
       mset = getD (g .count i) 1 0;
       isolated = getD (g .count i) 0 0;
       dloads = g .running i .dloads;
-      leading = (c .before .before .before .run-of .ensures ∙ sym (leading-isolated (recordsOf bs))) i;
+      leading = (c .before .before .before .leading-with .ensures ∙ sym (leading-isolated (recordsOf bs))) i;
       trailing = g .running i .trailing;
       longest = g .running i .longest;
       behind =
-          (ap₂ ltb (c .before .before .run-of2 .ensures ∙ sym (leading-engines (recordsOf bs))) (ap (λ (a : Running). a .engines) (g .running))
+          (ap₂ ltb (c .before .before .leading-with2 .ensures ∙ sym (leading-engines (recordsOf bs))) (ap (λ (a : Running). a .engines) (g .running))
           ∙ sym (behind-ahead (vehicles bs) (each-hauled (vehicles bs) (g .each)))) i;
       rule16 = (ap (λ (l : List ℕ). ltb 0 (getD l 3 0)) (g .count) ∙ sym (some-count isR (vehicles bs))) i;
       rule17 = (ap₂ ltb (ap (λ (a : Running). a .joined) (g .running)) n ∙ sym (lack-count isJoined (vehicles bs))) i;
@@ -94,9 +94,9 @@ account-from-spec =
     tie.close
     (tie.spec
     cast-count
-    run-of-requires
+    leading-with-requires
     cast-leading
-    run-of-requires-2
+    leading-with-requires-2
     cast-engines-ahead
     array-read-t19
     array-read-t22

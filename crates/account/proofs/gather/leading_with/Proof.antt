@@ -1,4 +1,4 @@
--- `account::gather::run_of` meets its contract: the records before `k` have the byte. Assumes nothing.
+-- `account::gather::leading_with` meets its contract: the records before `k` have the byte. Assumes nothing.
 use Prim.Native.Nat.{_-_, _≤_}
 use native.Mathlib.Omega.{arith}
 use mathlib.Core.Path.{_≡_, refl}
@@ -9,8 +9,8 @@ use Rattle.record.specs.Records.{recordCount, records}
 use Rattle.account.specs.Gathering.{hasByte}
 use Rattle.account.proofs.Gathers.{run-more, run-ends, run-whole}
 use borrow.Author.Needs.{needs}
-use Rattle.account.proofs.gather.run_of.Statement.{statement}
-use Rattle.account.proofs.gather.run_of.Tie as tie
+use Rattle.account.proofs.gather.leading_with.Statement.{statement}
+use Rattle.account.proofs.gather.leading_with.Tie as tie
 
 abbrev Inv-loop : tie.InvT-loop
 Inv-loop portion at x n k₀ k = (k ≤ n) × (all (hasByte at x) (records k portion) ≡ true)
@@ -57,8 +57,8 @@ returns-2 c =
     let t = l .inv .1 in
     run-whole (x .at) (x .x) (now (x .portion)) _ (rw end at t)
 
-pub run-of-spec : {M : Type 1} → statement M
-run-of-spec =
+pub leading-with-spec : {M : Type 1} → statement M
+leading-with-spec =
     tie.close
     (tie.spec
     Inv-loop

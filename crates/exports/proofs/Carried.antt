@@ -1,0 +1,118 @@
+-- Laws of accounts that come as bytes and go as bytes. Assumes nothing.
+use Prim.Native.Nat.{ℕ, _≤_}
+use mathlib.Core.Path.{_≡_, refl, sym, ap, ap₂, subst, _∙_}
+use mathlib.Core.Bool.{Bool, true, false, not, _&&_, _||_, cond}
+use mathlib.Core.List.{List, [], _∷_, _++_, map}
+use native.Mathlib.Omega.{arith}
+use lib.ListN.{length, take, replicate, length-append}
+use lib.Seq.{length-take-le}
+use Rattle.record.specs.Words.{_is_, _above_}
+use Rattle.record.specs.Records.{isWhole}
+use Rattle.record.specs.Vehicles.{vehicles}
+use Rattle.record.specs.declared.vehicle.Vehicle.{Vehicle}
+use Rattle.account.specs.Accounts.{accountOf, empty}
+use Rattle.account.specs.Ceilings.{within, Within}
+use Rattle.account.specs.Joining.{fill, joining}
+use Rattle.account.specs.Answers as account
+use Rattle.account.specs.Portions.{portionRefusals, accounted, joinRefusals, joined}
+use Rattle.account.specs.declared.Account.{Account}
+use Rattle.account.specs.declared.Accounted.{Accounted}
+use Rattle.account.specs.declared.Answer as account-answer
+use Rattle.account.specs.declared.Answer.the-variants as account-case
+use Rattle.account.proofs.Bytes.{done-sound, sound-done}
+use Rattle.account.proofs.Ceils.{test-within}
+use Rattle.account.proofs.Demands.{within-ceilings}
+use Rattle.judge.specs.Orders.{orderOf}
+use Rattle.judge.specs.Facts.{factsBeside}
+use Rattle.judge.specs.Sheets.{sheetOf}
+use Rattle.judge.specs.Answers.{accountRefusals, accountAnswer, accountSheet, written}
+use Rattle.judge.specs.declared.Answer.{Answer}
+use Rattle.judge.specs.declared.Answer.the-variants.{AboveCeiling}
+use Rattle.travel.specs.AccountRecords.{accountIn, isAccount, offered, recordOf}
+use Rattle.travel.proofs.Demands.{read-back, within-exactly}
+use Rattle.exports.specs.Lent.{oneNumber, sheetNumber, lentNumber, lentAccount}
+use Rattle.exports.proofs.Lent.{lent-refused}
+
+-- ---- 7 in joining
+module _ (left right : List ℕ) where
+  abbrev both : Accounted
+  both = joined (offered left) (offered right)
+
+  both-within : (within (offered left) && within (offered right)) ≡ (isAccount left && isAccount right)
+  both-within = ap₂ _&&_ (within-exactly left) (within-exactly right)
+
+  answer-seven : (isAccount left && isAccount right) ≡ false → both .answer ≡ account-case.AboveCeiling
+  unfolding joinRefusals
+  answer-seven e = rw (both-within ∙ e)
+
+  pub join-refused-seven : (room : List ℕ) → (isAccount left && isAccount right) ≡ false → (lentNumber both (length room) ≡ 7) × (lentAccount both room ≡ room)
+  join-refused-seven room e =
+      let n : oneNumber (account.numberOf (both .answer)) (account.placeOf (both .answer)) ≡ 7 =
+      ap (λ (a : account-answer.Answer). oneNumber (account.numberOf a) (account.placeOf a)) (answer-seven e) in
+      let l = lent-refused both room (oneNumber (account.numberOf (both .answer)) (account.placeOf (both .answer))) refl (λ z. omega (arith, n, z)) in
+      (sym (l .0) ∙ n, sym (l .1))
+
+  answer-other : (isAccount left && isAccount right) ≡ true → both .answer ≡ cond (not (within (joining (offered left) (offered right)))) account-case.TooMany account-case.Done
+  unfolding joinRefusals
+  answer-other e = rw (both-within ∙ e)
+
+  pub join-other-number : (room : ℕ) → (isAccount left && isAccount right) ≡ true → lentNumber both room ≡ 7 → ⊥
+  unfolding lentNumber
+  join-other-number room e seven =
+      go (within (joining (offered left) (offered right))) (64 above room)
+      (sym (ap (λ (a : account-answer.Answer). cond (account.numberOf a is 0 && 64 above room) 5 (oneNumber (account.numberOf a) (account.placeOf a))) (answer-other e)) ∙ seven)
+    where
+      number : Bool → account-answer.Answer
+      number w = cond (not w) account-case.TooMany account-case.Done
+
+      go : (w short : Bool) → cond (account.numberOf (number w) is 0 && short) 5 (oneNumber (account.numberOf (number w)) (account.placeOf (number w))) ≡ 7 → ⊥
+      go true true e = omega arith
+      go true false e = omega arith
+      go false short e = omega arith
+
+  joined-within : both .answer ≡ account-case.Done → within (joining (offered left) (offered right)) ≡ true
+  unfolding joinRefusals
+  joined-within e = go (within (offered left) && within (offered right)) (within (joining (offered left) (offered right))) e
+    where
+      go : (p q : Bool) → cond (not p) account-case.AboveCeiling (cond (not q) account-case.TooMany account-case.Done) ≡ account-case.Done → q ≡ true
+      go true true e = refl
+      go true false e = absurd (omega (arith, ap account.numberOf e))
+      go false q e = absurd (omega (arith, ap account.numberOf e))
+
+-- ---- 7 of engines with an account
+module _ (engines hauled order : List ℕ) (whole : (length engines is 0 || not (isWhole engines)) ≡ false) (bad : isAccount hauled ≡ false) where
+  sheet-answer : (room : ℕ) → accountAnswer engines (offered hauled) order room ≡ AboveCeiling
+  unfolding accountRefusals
+  sheet-answer room = rw (whole, within-exactly hauled ∙ bad)
+
+  pub sheet-refused-seven : (sheet : List ℕ) → (sheetNumber (accountAnswer engines (offered hauled) order (length sheet)) ≡ 7) × (accountSheet engines (offered hauled) order sheet ≡ sheet)
+  sheet-refused-seven sheet = (ap sheetNumber (sheet-answer (length sheet)), ap (λ (a : Answer). written a (sheetOf (factsBeside (vehicles engines) (offered hauled)) (orderOf order)) sheet) (sheet-answer (length sheet)))
+
+-- ---- what the C functions write reads back
+five-of : (xs : List Vehicle) → length (accountOf xs .first) ≡ 5
+unfolding accountOf
+five-of xs = length-take-le 5 (map (λ (v : Vehicle). v .setting) xs ++ replicate 5 4) (omega (arith, length-append (map (λ (v : Vehicle). v .setting) xs) (replicate 5 4)))
+
+pub portion-back : (bs : List ℕ) → accounted bs .answer ≡ account-case.Done → offered (recordOf (accounted bs .account)) ≡ accounted bs .account
+portion-back bs e =
+    let s = done-sound bs e in
+    let a : accounted bs .account ≡ accountOf (vehicles bs) = ap (λ (r : Accounted). r .account) (sound-done bs s) in
+    ap (λ (x : Account). offered (recordOf x)) a
+    ∙ read-back (accountOf (vehicles bs)) (within-ceilings (vehicles bs) (s .hauled)) (five-of (vehicles bs))
+    ∙ sym a
+
+five-offered : (bs : List ℕ) → length (offered bs .first) ≡ 5
+unfolding offered accountIn
+five-offered bs = refl
+
+five-joined : (l r : Account) → length (r .first) ≡ 5 → length (joining l r .first) ≡ 5
+unfolding joining
+five-joined l r h = length-take-le 5 (take (l .count) (l .first) ++ r .first) (omega (arith, length-append (take (l .count) (l .first)) (r .first)))
+
+pub join-back : (left right : List ℕ) → both left right .answer ≡ account-case.Done → offered (recordOf (both left right .account)) ≡ both left right .account
+join-back left right e =
+    let j = joining (offered left) (offered right) in
+    let a : both left right .account ≡ j = ap (λ (x : account-answer.Answer). cond (account.numberOf x is 0) j empty) e in
+    ap (λ (x : Account). offered (recordOf x)) a
+    ∙ read-back j (test-within j (joined-within left right e)) (five-joined (offered left) (offered right) (five-offered right))
+    ∙ sym a
