@@ -6,31 +6,33 @@ use mathlib.Core.List.{List, [], _∷_, _++_, map}
 use native.Mathlib.Omega.{arith}
 use lib.ListN.{length, take, replicate, length-append}
 use lib.Seq.{length-take-le}
-use Rattle.record.specs.Words.{_is_, _above_}
+use Rattle.record.specs.Words.{_is_, _above_, all}
 use Rattle.record.specs.Records.{isWhole}
-use Rattle.record.specs.Vehicles.{vehicles}
+use Rattle.record.specs.Vehicles.{vehicles, isWorking}
 use Rattle.record.specs.declared.vehicle.Vehicle.{Vehicle}
 use Rattle.account.specs.Accounts.{accountOf, empty}
 use Rattle.account.specs.Ceilings.{within, Within}
 use Rattle.account.specs.Joining.{fill, joining}
 use Rattle.account.specs.Answers as account
 use Rattle.account.specs.Portions.{portionRefusals, accounted, joinRefusals, joined}
+use Rattle.account.specs.Groupings.{Grouping, portion, pair, uncut, joinedBytes, BetweenRecords, NoneRefused}
 use Rattle.account.specs.declared.Account.{Account}
 use Rattle.account.specs.declared.Accounted.{Accounted}
 use Rattle.account.specs.declared.Answer as account-answer
 use Rattle.account.specs.declared.Answer.the-variants as account-case
 use Rattle.account.proofs.Bytes.{done-sound, sound-done}
 use Rattle.account.proofs.Ceils.{test-within}
-use Rattle.account.proofs.Demands.{within-ceilings}
+use Rattle.account.proofs.Demands.{within-ceilings, any-grouping-not-refused}
 use Rattle.judge.specs.Orders.{orderOf}
 use Rattle.judge.specs.Facts.{factsBeside}
 use Rattle.judge.specs.Sheets.{sheetOf}
-use Rattle.judge.specs.Answers.{accountRefusals, accountAnswer, accountSheet, written}
+use Rattle.judge.specs.Answers.{accountRefusals, trainAnswer, trainSheet, accountAnswer, accountSheet, written, GoodEngines}
 use Rattle.judge.specs.declared.Answer.{Answer}
 use Rattle.judge.specs.declared.Answer.the-variants.{AboveCeiling}
+use Rattle.judge.proofs.Demands.{sheet-from-account}
 use Rattle.travel.specs.AccountRecords.{accountIn, isAccount, offered, recordOf}
 use Rattle.travel.proofs.Demands.{read-back, within-exactly}
-use Rattle.exports.specs.Lent.{oneNumber, sheetNumber, lentNumber, lentAccount}
+use Rattle.exports.specs.Lent.{oneNumber, sheetNumber, lentNumber, lentAccount, carried}
 use Rattle.exports.proofs.Lent.{lent-refused}
 
 -- ---- 7 in joining
@@ -116,3 +118,29 @@ join-back left right e =
     ap (λ (x : Account). offered (recordOf x)) a
     ∙ read-back j (test-within j (joined-within left right e)) (five-joined (offered left) (offered right) (five-offered right))
     ∙ sym a
+
+-- ---- and so does what is joined call after call
+pub grouping-back : (g : Grouping ℕ) → NoneRefused g → offered (carried g) ≡ joinedBytes g .account
+grouping-back (portion bs) h = portion-back bs h
+grouping-back (pair left right) h =
+    let e : both (carried left) (carried right) ≡ joinedBytes (pair left right) = ap₂ joined (grouping-back left (h .0)) (grouping-back right (h .1)) in
+    join-back (carried left) (carried right) (ap (λ (r : Accounted). r .answer) e ∙ h .2) ∙ ap (λ (r : Accounted). r .account) e
+
+grouping-done : (g : Grouping ℕ) → NoneRefused g → joinedBytes g .answer ≡ account-case.Done
+grouping-done (portion bs) h = h
+grouping-done (pair left right) h = h .2
+
+module _ (g : Grouping ℕ) (cut : BetweenRecords g) (none : NoneRefused g) where
+  pub grouping-account : offered (carried g) ≡ accounted (uncut g) .account
+  grouping-account = grouping-back g none ∙ ap (λ (r : Accounted). r .account) (any-grouping-not-refused g none)
+
+  pub grouping-sheet : (engines order sheet : List ℕ) → GoodEngines engines → all isWorking (vehicles engines) ≡ true
+      → (accountAnswer engines (offered (carried g)) order (length sheet) ≡ trainAnswer (engines ++ uncut g) order (length sheet))
+      × (accountSheet engines (offered (carried g)) order sheet ≡ trainSheet (engines ++ uncut g) order sheet)
+  grouping-sheet engines order sheet e w =
+      let done = sym (ap (λ (r : Accounted). r .answer) (any-grouping-not-refused g none)) ∙ grouping-done g none in
+      let t = sheet-from-account engines g order sheet e w cut done in
+      let b = grouping-back g none in (
+        ap (λ (a : Account). accountAnswer engines a order (length sheet)) b ∙ t .0,
+        ap (λ (a : Account). accountSheet engines a order sheet) b ∙ t .1,
+      )

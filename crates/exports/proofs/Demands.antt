@@ -6,18 +6,20 @@ use mathlib.Core.Bool.{true, false, not, _&&_, _||_}
 use mathlib.Core.List.{List, [], _++_}
 use native.Mathlib.Omega.{arith}
 use lib.ListN.{length, drop}
-use Rattle.record.specs.Words.{_is_}
+use Rattle.record.specs.Words.{_is_, all}
 use Rattle.record.specs.Records.{isWhole}
+use Rattle.record.specs.Vehicles.{vehicles, isWorking}
 use Rattle.account.specs.Answers as account
 use Rattle.account.specs.Portions.{accounted, joined}
+use Rattle.account.specs.Groupings.{Grouping, uncut, BetweenRecords, NoneRefused}
 use Rattle.account.specs.declared.Accounted.{Accounted}
 use Rattle.account.specs.declared.Answer.the-variants.{Done}
-use Rattle.judge.specs.Answers.{numberOf, placeOf, accountAnswer, accountSheet}
+use Rattle.judge.specs.Answers.{numberOf, placeOf, trainAnswer, trainSheet, accountAnswer, accountSheet, GoodEngines}
 use Rattle.judge.specs.declared.Answer.{Answer}
 use Rattle.travel.specs.AccountRecords.{isAccount, offered, recordOf}
-use Rattle.exports.specs.Lent.{oneNumber, sheetNumber, lentNumber, lentAccount, lentVehicle}
+use Rattle.exports.specs.Lent.{oneNumber, sheetNumber, lentNumber, lentAccount, lentVehicle, carried}
 use Rattle.exports.proofs.Lent.{number-small, done-number, lent-not-done, lent-refused, lent-short, lent-done, lent-or-none}
-use Rattle.exports.proofs.Carried.{join-refused-seven, join-other-number, sheet-refused-seven, portion-back, join-back}
+use Rattle.exports.proofs.Carried.{join-refused-seven, join-other-number, sheet-refused-seven, portion-back, join-back, grouping-account, grouping-sheet}
 
 -- ---- the answer as one number: its two parts are had from it
 pub number-back : (answer : Answer) → sheetNumber answer % 256 ≡ numberOf answer
@@ -64,6 +66,16 @@ written-portion-back = portion-back
 pub written-join-back : (left right : List ℕ) → joined (offered left) (offered right) .answer ≡ Done
     → offered (recordOf (joined (offered left) (offered right) .account)) ≡ joined (offered left) (offered right) .account
 written-join-back = join-back
+
+-- ---- demand 3 through the bytes: portions cut between records, no call refused
+module _ (g : Grouping ℕ) (cut : BetweenRecords g) (none : NoneRefused g) where
+  pub carried-account : offered (carried g) ≡ accounted (uncut g) .account
+  carried-account = grouping-account g cut none
+
+  pub sheet-from-bytes : (engines order sheet : List ℕ) → GoodEngines engines → all isWorking (vehicles engines) ≡ true
+      → (accountAnswer engines (offered (carried g)) order (length sheet) ≡ trainAnswer (engines ++ uncut g) order (length sheet))
+      × (accountSheet engines (offered (carried g)) order sheet ≡ trainSheet (engines ++ uncut g) order sheet)
+  sheet-from-bytes = grouping-sheet g cut none
 
 -- ---- the vehicle that holds the speed
 pub twenty-four-or-none : (front back : List ℕ) (room : ℕ) → (length (lentVehicle front back room) ≡ 24) ⊎ (lentVehicle front back room ≡ [])

@@ -5,11 +5,13 @@ use mathlib.Core.List.{List, [], _++_}
 use lib.ListN.{length, drop}
 use Rattle.record.specs.Words.{_is_, _above_}
 use Rattle.account.specs.Answers as account
+use Rattle.account.specs.Portions.{accounted, joined}
+use Rattle.account.specs.Groupings.{Grouping, portion, pair}
 use Rattle.account.specs.Speed.{holdsTheSpeed}
 use Rattle.account.specs.declared.Accounted.{Accounted}
 use Rattle.judge.specs.Answers as judge
 use Rattle.judge.specs.declared.Answer.{Answer}
-use Rattle.travel.specs.AccountRecords.{recordOf}
+use Rattle.travel.specs.AccountRecords.{offered, recordOf}
 
 -- an answer as one number
 abbrev pub oneNumber : ℕ → ℕ → ℕ
@@ -26,6 +28,11 @@ lentNumber r room =
 -- a refused call writes nothing; a done call writes its first 64 bytes and no other
 unfoldable pub lentAccount : Accounted → List ℕ → List ℕ
 lentAccount r room = cond (lentNumber r (length room) is 0) (recordOf (r .account) ++ drop 64 room) room
+
+-- what is written, call after call, where portions are accounted and their accounts joined as they are grouped
+abbrev pub carried : Grouping ℕ → List ℕ
+carried (portion bs) = recordOf (accounted bs .account)
+carried (pair left right) = recordOf (joined (offered (carried left)) (offered (carried right)) .account)
 
 -- the vehicle that holds the speed, where there is one and room for its 24 bytes
 unfoldable pub lentVehicle : List ℕ → List ℕ → ℕ → List ℕ

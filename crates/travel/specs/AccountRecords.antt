@@ -81,6 +81,7 @@ mark holds = cond holds 1 0
 -- where each figure is put, with the marks as bytes
 abbrev pub recordWith : Account → ℕ → ℕ → ℕ → ℕ → List ℕ
 recordWith a behind rule16 rule17 rule18 =
+    -- 0-19 in fours, 20-23 in twos
     fourBytes (a .count)
     (fourBytes (a .mass)
     (fourBytes (a .vmass)
@@ -88,6 +89,7 @@ recordWith a behind rule16 rule17 rule18 =
     (fourBytes (a .length)
     (twoBytes (a .axles)
     (twoBytes (a .vaxles)
+    -- from 24 on a byte each
     (a .engines % 256
     ∷ a .mset % 256
     ∷ a .isolated % 256
@@ -95,16 +97,19 @@ recordWith a behind rule16 rule17 rule18 =
     ∷ a .leading % 256
     ∷ a .trailing % 256
     ∷ a .longest % 256
+    -- 31-34
     ∷ behind
     ∷ rule16
     ∷ rule17
     ∷ rule18
+    -- 35, 36-40
     ∷ a .slowest % 256
     ∷ getD (a .first) 0 0 % 256
     ∷ getD (a .first) 1 0 % 256
     ∷ getD (a .first) 2 0 % 256
     ∷ getD (a .first) 3 0 % 256
     ∷ getD (a .first) 4 0 % 256
+    -- 41-63 not used
     ∷ replicate 23 0)))))))
 
 -- the 64 bytes of an account
