@@ -7,7 +7,7 @@
  * BUFFERS
  * - A buffer is a pointer and its length in bytes. The pointer is never NULL, not even where the length is 0.
  * - A buffer that is read may be lent twice in one call. A buffer that is written overlaps no other of the call.
- * - A done call writes the first 32, 64 or 24 bytes named below and no other, and the buffer may be longer. A refused
+ * - A done call writes the first 32, 128 or 24 bytes named below and no other, and the buffer may be longer. A refused
  *   call writes nothing: what the buffer held before is no sheet and no account.
  *
  * ANSWERS: number + 256 * place. The place counts records from 0, and is 0 save for number 3; with engines lent apart it
@@ -18,7 +18,7 @@
  *     2   more than 200 records together; in joining accounts, a joined figure above its ceiling
  *     3   a field out of range; the place is the first such record
  *     4   the order record is not 24 bytes or has a field out of range
- *     5   the lent sheet is shorter than 32 bytes, or the room for an account shorter than 64
+ *     5   the lent sheet is shorter than 32 bytes, or the room for an account shorter than 128
  *     6   a working engine in a portion offered as hauled
  *     7   bytes that are no account: see the account below
  *     11  the first record is not a working engine; with engines lent apart, any of them is not
@@ -69,33 +69,34 @@
  *     24-27  braked mass after deduction for the asked category, rounded down
  *     28-31  train length
  *
- * An account of hauled vehicles in order, 64 bytes
+ * An account of hauled vehicles in order, 128 bytes
  *     bytes  figure                                             ceiling
  *     0-3    count                                                  200
  *     4-7    mass                                               500,000
  *     8-11   V masses of records set to V                       500,000
  *     12-15  M masses of records set to M                       500,000
  *     16-19  length                                             200,000
- *     20-21  axles                                                4,800
- *     22-23  axles of records set to V                            4,800
- *     24     hauled engines                                         200
- *     25     records set to M                                       200
- *     26     isolated records                                       200
- *     27     D loads                                                200
- *     28     leading run of isolated                                200
- *     29     trailing run of isolated                               200
- *     30     longest run of isolated                                200
- *     31     an engine stands behind a wagon                          1
- *     32     rule 16 is broken: a record set to R                     1
- *     33     rule 17 is broken: a record not joined to the pipe       1
- *     34     rule 18 is broken: a wagon, byte 21 set, not isolated    1
- *     35     slowest speed                                          200
- *     36-40  settings of the first five, 4 where there is none        4 each
- *     41-63  not used                                                 0 each
+ *     20-23  axles                                                4,800
+ *     24-27  axles of records set to V                            4,800
+ *     28-31  hauled engines                                         200
+ *     32-35  records set to M                                       200
+ *     36-39  isolated records                                       200
+ *     40-43  D loads                                                200
+ *     44-47  leading run of isolated                                200
+ *     48-51  trailing run of isolated                               200
+ *     52-55  longest run of isolated                                200
+ *     56     an engine stands behind a wagon                          1
+ *     57     rule 16 is broken: a record set to R                     1
+ *     58     rule 17 is broken: a record not joined to the pipe       1
+ *     59     rule 18 is broken: a wagon, byte 21 set, not isolated    1
+ *     60-63  slowest speed                                          200
+ *     64-68  settings of the first five, 4 where there is none        4 each
+ *     69-127 not used                                                 0 each
  *
- *   Where an account is read, any other length than 64, or any figure, mark or unused byte above its ceiling, is
- *   refusal 7. The empty account, which prskavon_account_of gives for no bytes, has 200 in byte 35 and 4 in bytes 36
- *   to 40; 64 zeros are an account too, but one whose slowest speed is 0.
+ *   Where an account is read, any other length than 128, or any figure, mark, setting or unused byte above its ceiling,
+ *   is refusal 7. The empty account, which prskavon_account_of gives for no bytes, has 200 in byte 60 and 4 in bytes 64
+ *   to 68; 128 zeros are an account too, but one whose slowest speed is 0. A figure once given its bytes
+ *   never moves; figures to come take unused ones.
  */
 #ifndef PRSKAVON_H
 #define PRSKAVON_H
@@ -110,7 +111,7 @@ extern "C" {
 #define PRSKAVON_VEHICLE 24
 #define PRSKAVON_ORDER 24
 #define PRSKAVON_SHEET 32
-#define PRSKAVON_ACCOUNT 64
+#define PRSKAVON_ACCOUNT 128
 
 /* The two parts of an answer. */
 static inline unsigned prskavon_number(uint64_t answer) { return (unsigned)(answer % 256); }
@@ -123,12 +124,12 @@ uint64_t prskavon_sheet_of_train(const uint8_t *vehicles, size_t vehicles_len,
                                  uint8_t *sheet, size_t sheet_len);
 
 /* The account of a portion of hauled vehicles; an empty portion is good.
- * Refusals, the first that applies: 1, 2, 3, 6, 5. Done: 64 bytes of account are written. */
+ * Refusals, the first that applies: 1, 2, 3, 6, 5. Done: 128 bytes of account are written. */
 uint64_t prskavon_account_of(const uint8_t *portion, size_t portion_len,
                              uint8_t *account, size_t account_len);
 
 /* The account of two neighbouring portions, from their accounts, the front one left.
- * Refusals, the first that applies: 7, 2, 5. Done: 64 bytes of account are written. */
+ * Refusals, the first that applies: 7, 2, 5. Done: 128 bytes of account are written. */
 uint64_t prskavon_join(const uint8_t *left, size_t left_len,
                        const uint8_t *right, size_t right_len,
                        uint8_t *account, size_t account_len);

@@ -160,8 +160,8 @@ int main(void) {
     train[3 * PRSKAVON_VEHICLE + 16] = 25;
     refused(prskavon_sheet_of_train(train, TRAIN, order, sizeof order, sheet, sizeof sheet), 3, 3,
             ": a field out of range; the place is the first such record, counted from 0", sheet);
-    printf("An account with byte 63 set to 1\n");
-    account[63] = 1;
+    printf("An account with byte 127 set to 1\n");
+    account[127] = 1;
     refused(prskavon_sheet_of_account(train, ENGINE, account, sizeof account, order, sizeof order, sheet, sizeof sheet),
             7, 0, ": an account with a figure above its ceiling", sheet);
     return 0;

@@ -5,7 +5,7 @@ use crate::vehicle::{
     Record, Vehicle, HAULED_ENGINE, ISOLATED, SET_TO_M, SET_TO_R, SET_TO_V, WAGON,
 };
 
-pub const ACCOUNT: usize = 64;
+pub const ACCOUNT: usize = 128;
 
 /// The setting that stands where there is no vehicle.
 pub const NO_SETTING: u8 = 4;
@@ -30,7 +30,7 @@ pub struct Account {
     pub rule_16: bool,
     pub rule_17: bool,
     pub rule_18: bool,
-    pub slowest: u8,
+    pub slowest: u32,
     pub first: [u8; 5],
 }
 
@@ -108,7 +108,7 @@ impl Account {
         self.d_loads += u32::from(vehicle.d_load);
         self.rule_17 |= vehicle.joined == 0;
         self.rule_18 |= breaks_rule_18(vehicle);
-        self.slowest = self.slowest.min(vehicle.speed);
+        self.slowest = self.slowest.min(u32::from(vehicle.speed));
     }
 
     /// The account of two neighbours, the front one `self`; refusal 2 where a figure passes its ceiling.
@@ -152,7 +152,7 @@ impl Account {
             self.leading,
             self.trailing,
             self.longest,
-            u32::from(self.slowest),
+            self.slowest,
         ];
         let masses = [self.mass, self.braked_v, self.braked_m];
         hundreds.iter().all(|&figure| figure <= 200)
@@ -166,65 +166,64 @@ impl Account {
     /// None where the bytes are no account or a figure is above its ceiling (refusal 7).
     pub fn read(bytes: &[u8]) -> Option<Account> {
         let bytes: &[u8; ACCOUNT] = bytes.try_into().ok()?;
-        let long = |at: usize| {
+        let figure = |at: usize| {
             u32::from_le_bytes([bytes[at], bytes[at + 1], bytes[at + 2], bytes[at + 3]])
         };
-        let short = |at: usize| u32::from(u16::from_le_bytes([bytes[at], bytes[at + 1]]));
         let account = Account {
-            count: long(0),
-            mass: long(4),
-            braked_v: long(8),
-            braked_m: long(12),
-            length: long(16),
-            axles: short(20),
-            axles_v: short(22),
-            engines: u32::from(bytes[24]),
-            set_to_m: u32::from(bytes[25]),
-            isolated: u32::from(bytes[26]),
-            d_loads: u32::from(bytes[27]),
-            leading: u32::from(bytes[28]),
-            trailing: u32::from(bytes[29]),
-            longest: u32::from(bytes[30]),
-            engine_behind_wagon: bytes[31] == 1,
-            rule_16: bytes[32] == 1,
-            rule_17: bytes[33] == 1,
-            rule_18: bytes[34] == 1,
-            slowest: bytes[35],
-            first: [bytes[36], bytes[37], bytes[38], bytes[39], bytes[40]],
+            count: figure(0),
+            mass: figure(4),
+            braked_v: figure(8),
+            braked_m: figure(12),
+            length: figure(16),
+            axles: figure(20),
+            axles_v: figure(24),
+            engines: figure(28),
+            set_to_m: figure(32),
+            isolated: figure(36),
+            d_loads: figure(40),
+            leading: figure(44),
+            trailing: figure(48),
+            longest: figure(52),
+            engine_behind_wagon: bytes[56] == 1,
+            rule_16: bytes[57] == 1,
+            rule_17: bytes[58] == 1,
+            rule_18: bytes[59] == 1,
+            slowest: figure(60),
+            first: [bytes[64], bytes[65], bytes[66], bytes[67], bytes[68]],
         };
-        let marks = bytes[31..35].iter().all(|&mark| mark <= 1);
-        let unused = bytes[41..] == [0; 23];
+        let marks = bytes[56..60].iter().all(|&mark| mark <= 1);
+        let unused = bytes[69..].iter().all(|&byte| byte == 0);
         (marks && unused && account.is_within()).then_some(account)
     }
 
-    /// The 64 bytes of an account within its ceilings.
+    /// The 128 bytes of an account: a figure above its ceiling keeps its value.
     pub fn write(&self) -> [u8; ACCOUNT] {
         let mut bytes = [0; ACCOUNT];
-        let longs = [
+        let figures = [
             self.count,
             self.mass,
             self.braked_v,
             self.braked_m,
             self.length,
+            self.axles,
+            self.axles_v,
+            self.engines,
+            self.set_to_m,
+            self.isolated,
+            self.d_loads,
+            self.leading,
+            self.trailing,
+            self.longest,
         ];
-        for (place, long) in bytes.chunks_exact_mut(4).zip(longs) {
-            place.copy_from_slice(&long.to_le_bytes());
+        for (place, figure) in bytes.chunks_exact_mut(4).zip(figures) {
+            place.copy_from_slice(&figure.to_le_bytes());
         }
-        bytes[20..22].copy_from_slice(&(self.axles as u16).to_le_bytes());
-        bytes[22..24].copy_from_slice(&(self.axles_v as u16).to_le_bytes());
-        bytes[24] = self.engines as u8;
-        bytes[25] = self.set_to_m as u8;
-        bytes[26] = self.isolated as u8;
-        bytes[27] = self.d_loads as u8;
-        bytes[28] = self.leading as u8;
-        bytes[29] = self.trailing as u8;
-        bytes[30] = self.longest as u8;
-        bytes[31] = u8::from(self.engine_behind_wagon);
-        bytes[32] = u8::from(self.rule_16);
-        bytes[33] = u8::from(self.rule_17);
-        bytes[34] = u8::from(self.rule_18);
-        bytes[35] = self.slowest;
-        bytes[36..41].copy_from_slice(&self.first);
+        bytes[56] = u8::from(self.engine_behind_wagon);
+        bytes[57] = u8::from(self.rule_16);
+        bytes[58] = u8::from(self.rule_17);
+        bytes[59] = u8::from(self.rule_18);
+        bytes[60..64].copy_from_slice(&self.slowest.to_le_bytes());
+        bytes[64..69].copy_from_slice(&self.first);
         bytes
     }
 }
@@ -312,6 +311,27 @@ mod tests {
     fn an_account_keeps_its_bytes() {
         let account = Account::of(&wagons(&[0, 1, 2, 3, 1, 2]));
         assert_eq!(Account::read(&account.write()), Some(account));
-        assert_eq!(Account::read(&account.write()[..63]), None);
+        assert_eq!(Account::read(&account.write()[..127]), None);
+    }
+
+    #[test]
+    fn a_figure_above_its_ceiling_is_written_above_it() {
+        for count in [201, 255, 256, 65_536, u32::MAX] {
+            let account = Account {
+                count,
+                ..Account::EMPTY
+            };
+            assert_eq!(account.write()[..4], count.to_le_bytes());
+            assert_eq!(Account::read(&account.write()), None);
+        }
+    }
+
+    #[test]
+    fn a_mark_of_2_and_an_unused_byte_are_no_account() {
+        for at in (56..60).chain(69..128) {
+            let mut bytes = Account::EMPTY.write();
+            bytes[at] = 2;
+            assert_eq!(Account::read(&bytes), None, "{at}");
+        }
     }
 }

@@ -1,7 +1,10 @@
 //! One call of one function, the same for the model and for the library.
 
+use crate::account::ACCOUNT;
 use crate::calls;
 use crate::line::hex;
+use crate::sheet::SHEET;
+use crate::vehicle::VEHICLE;
 
 /// Something that has the five functions.
 pub trait Side {
@@ -76,9 +79,9 @@ impl Function {
     /// How many bytes a done call writes.
     pub fn writes(self) -> usize {
         match self {
-            Function::SheetOfTrain | Function::SheetOfAccount => 32,
-            Function::AccountOf | Function::Join => 64,
-            Function::HoldsTheSpeed => 24,
+            Function::SheetOfTrain | Function::SheetOfAccount => SHEET,
+            Function::AccountOf | Function::Join => ACCOUNT,
+            Function::HoldsTheSpeed => VEHICLE,
         }
     }
 
@@ -116,7 +119,7 @@ pub enum Inputs {
 }
 
 /// The longest buffer that is lent, with room behind it to see a write past its end.
-pub const BUFFER: usize = 160;
+pub const BUFFER: usize = 192;
 
 #[derive(Clone, Debug)]
 pub struct Call {

@@ -159,7 +159,7 @@ mod tests {
         let draft = case_a();
         let mut account = [0; ACCOUNT];
         assert_eq!(account_of(&bytes(&draft.hauled), &mut account), 0);
-        account[35] = 0;
+        account[60] = 0;
         let engines = bytes(&draft.working);
         let mut room = [9; SHEET];
         let answer = sheet_of_account(&engines, &account, &draft.order.write(), &mut room);

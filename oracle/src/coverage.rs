@@ -6,6 +6,7 @@ use crate::account::Account;
 use crate::boundaries::Boundaries;
 use crate::call::{Call, Function, Inputs, FUNCTIONS};
 use crate::facts::Facts;
+use crate::offered::Offered;
 use crate::order::Order;
 use crate::precedence::{applying, excluded, refusals};
 use crate::vehicle::is_working;
@@ -29,6 +30,7 @@ pub struct Coverage {
     numbers: [[u64; 32]; 5],
     pairs: [[[u64; 16]; 16]; 5],
     sheets: [Sheets; 2],
+    offered: Offered,
 }
 
 /// What a run has to meet.
@@ -66,6 +68,7 @@ impl Default for Coverage {
             numbers: [[0; 32]; 5],
             pairs: [[[0; 16]; 16]; 5],
             sheets: [none.clone(), none],
+            offered: Offered::default(),
         }
     }
 }
@@ -75,6 +78,7 @@ impl Coverage {
         let function = call.function();
         self.numbers[function as usize][(answer % 256) as usize] += 1;
         let all = applying(call);
+        self.offered.note(call, &all);
         for &first in &all {
             for &second in &all {
                 self.pairs[function as usize][usize::from(first)][usize::from(second)] += 1;
@@ -108,6 +112,7 @@ impl Coverage {
         for (sheets, more) in self.sheets.iter_mut().zip(&other.sheets) {
             sheets.add(more);
         }
+        self.offered.add(&other.offered);
     }
 
     /// What could have occurred and did not.
@@ -127,6 +132,7 @@ impl Coverage {
         self.sheets[0].missing("trains", scope, &mut missing);
         if scope == Scope::Functions {
             self.sheets[1].missing("accounts", scope, &mut missing);
+            missing.extend(self.offered.missing());
         }
         missing
     }
@@ -162,6 +168,7 @@ impl Coverage {
         text += &self.sheets[0].table("trains");
         if scope == Scope::Functions {
             text += &self.sheets[1].table("accounts");
+            text += &self.offered.table();
         }
         text + &impossible(scope)
     }

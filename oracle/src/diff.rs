@@ -2,6 +2,7 @@
 
 use std::sync::atomic::{AtomicU64, Ordering};
 
+use crate::account::ACCOUNT;
 use crate::call::{Call, Inputs, Model, Side, BUFFER};
 use crate::coverage::Coverage;
 use crate::gen::draft::bytes;
@@ -200,7 +201,7 @@ impl<'a, S: Side> Case<'a, S> {
     fn account(&mut self, inputs: Inputs) -> Vec<u8> {
         let call = Call {
             inputs,
-            room: 64,
+            room: ACCOUNT,
             fill: 0x5a,
         };
         let (answer, buffer) = self.check(&call);
@@ -209,7 +210,7 @@ impl<'a, S: Side> Case<'a, S> {
             let text = format!("  {name} refused a portion of a list: {}\n", shown(answer));
             self.wrong.push(text + &call.describe());
         }
-        buffer[..64].to_vec()
+        buffer[..ACCOUNT].to_vec()
     }
 
     fn both_sheets(&mut self, cut: &Cut, hauled: Vec<u8>) {
@@ -259,6 +260,27 @@ mod tests {
         PlaceOffByOne,
         WritesBehind,
         WritesWhenRefused,
+        ReadsTwoBytes,
+        TakesUnusedBytes,
+        TakesLonger,
+    }
+
+    impl Slip {
+        /// The bytes as a reader with this slip takes them.
+        fn taken(self, account: &[u8]) -> Vec<u8> {
+            let mut taken = account.to_vec();
+            match self {
+                Slip::ReadsTwoBytes if taken.len() == ACCOUNT => {
+                    for figure in taken[..56].chunks_exact_mut(4) {
+                        figure[2..].fill(0);
+                    }
+                }
+                Slip::TakesUnusedBytes if taken.len() == ACCOUNT => taken[69..].fill(0),
+                Slip::TakesLonger => taken.truncate(ACCOUNT),
+                _ => {}
+            }
+            taken
+        }
     }
 
     impl Side for Slip {
@@ -277,16 +299,17 @@ mod tests {
 
         fn account_of(&self, portion: &[u8], room: &mut [u8]) -> u64 {
             let answer = Model.account_of(portion, room);
-            if *self == Slip::WritesBehind && answer == 0 && room.len() > 64 {
-                room[64] = 0;
+            if *self == Slip::WritesBehind && answer == 0 && room.len() > ACCOUNT {
+                room[ACCOUNT] = 0;
             }
             answer
         }
 
         fn join(&self, left: &[u8], right: &[u8], room: &mut [u8]) -> u64 {
-            let answer = Model.join(left, right, room);
+            let answer = Model.join(left, &self.taken(right), room);
             if *self == Slip::LongestByTheGreater && answer == 0 {
-                room[30] = left[30].max(right[30]);
+                // Byte 52 holds the whole of a longest run.
+                room[52] = left[52].max(right[52]);
             }
             answer
         }
@@ -298,7 +321,7 @@ mod tests {
             order: &[u8],
             room: &mut [u8],
         ) -> u64 {
-            Model.sheet_of_account(engines, hauled, order, room)
+            Model.sheet_of_account(engines, &self.taken(hauled), order, room)
         }
 
         fn holds_the_speed(&self, front: &[u8], back: &[u8], room: &mut [u8]) -> usize {
@@ -327,5 +350,8 @@ mod tests {
         assert!(differences(Slip::PlaceOffByOne) > 0);
         assert!(differences(Slip::WritesBehind) > 0);
         assert!(differences(Slip::WritesWhenRefused) > 0);
+        assert!(differences(Slip::ReadsTwoBytes) > 0);
+        assert!(differences(Slip::TakesUnusedBytes) > 0);
+        assert!(differences(Slip::TakesLonger) > 0);
     }
 }

@@ -104,7 +104,8 @@ impl Facts {
             d_loads: engines.d_loads + hauled.d_loads,
             isolated: engines.isolated + hauled.isolated,
             longest_run: hauled.longest,
-            slowest: engines.slowest.min(hauled.slowest),
+            // Its ceiling is 200.
+            slowest: engines.slowest.min(hauled.slowest as u8),
             engine_behind_wagon: hauled.engine_behind_wagon,
             some_in_r: engines.some_in_r || hauled.rule_16,
             some_unjoined: engines.some_unjoined || hauled.rule_17,

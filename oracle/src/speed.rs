@@ -4,6 +4,7 @@ use std::fmt::Write;
 use std::hint::black_box;
 use std::time::Instant;
 
+use crate::account::ACCOUNT;
 use crate::call::{Call, Inputs, Model, Side, BUFFER};
 use crate::gen::accounts::{account_of, bad_account};
 use crate::gen::damage::refused_train;
@@ -95,7 +96,7 @@ pub fn portions(hauled: usize) -> Workload {
     let name = format!("account_of, {hauled} records");
     Workload::new(name, hauled, || {
         let portion = bytes(&good_train(&mut random, hauled).hauled);
-        call(Inputs::Portion { portion }, 64)
+        call(Inputs::Portion { portion }, ACCOUNT)
     })
 }
 
@@ -109,7 +110,7 @@ pub fn joins() -> Workload {
     Workload::new("join".to_owned(), 1, || {
         let left = account(&mut random, 20);
         let right = account(&mut random, 30);
-        call(Inputs::Accounts { left, right }, 64)
+        call(Inputs::Accounts { left, right }, ACCOUNT)
     })
 }
 
@@ -157,7 +158,7 @@ fn refused_portions() -> Workload {
         let mut hauled = good_train(&mut random, 40).hauled;
         hauled[39].kind = crate::vehicle::WORKING_ENGINE;
         let portion = bytes(&hauled);
-        call(Inputs::Portion { portion }, 64)
+        call(Inputs::Portion { portion }, ACCOUNT)
     })
 }
 
@@ -166,7 +167,7 @@ fn refused_joins() -> Workload {
     Workload::new("join, refusal 7".to_owned(), 1, || {
         let left = bad_account(&mut random);
         let right = account(&mut random, 30);
-        call(Inputs::Accounts { left, right }, 64)
+        call(Inputs::Accounts { left, right }, ACCOUNT)
     })
 }
 
@@ -175,7 +176,7 @@ fn too_long_joins() -> Workload {
     Workload::new("join, refusal 2".to_owned(), 1, || {
         let left = account(&mut random, 101);
         let right = account(&mut random, 100);
-        call(Inputs::Accounts { left, right }, 64)
+        call(Inputs::Accounts { left, right }, ACCOUNT)
     })
 }
 
@@ -191,19 +192,24 @@ pub fn workload(what: &str, size: usize) -> Option<Workload> {
     }
 }
 
-/// Every row of the table, as text.
-pub fn table(library: &impl Side) -> String {
+/// The rows of the table.
+pub fn workloads() -> Vec<Workload> {
     let mut workloads: Vec<Workload> = SIZES.into_iter().map(trains).collect();
     workloads.extend(SIZES.into_iter().map(portions));
     workloads.extend([joins(), judged()]);
     workloads.extend([1, 2, 3, 4, 5, 11, 12, 13, 14].map(refused));
     workloads.push(refused_at_the_end());
     workloads.extend([refused_portions(), refused_joins(), too_long_joins()]);
+    workloads
+}
+
+/// Every row of the table, as text.
+pub fn table(library: &impl Side) -> String {
     let mut text = format!(
         "{:<38} {:>19} {:>19} {:>8}\n{:<38} {:>9} {:>9} {:>9} {:>9} {:>8}\n",
         "", "library, ns", "model, ns", "model/", "", "call", "record", "call", "record", "library"
     );
-    for workload in &workloads {
+    for workload in &workloads() {
         let (ours, theirs) = medians(workload, library);
         let records = workload.records as f64;
         let _ = writeln!(

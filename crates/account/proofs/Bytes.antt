@@ -2,31 +2,31 @@
 use Prim.Native.Nat.{ℕ, _%_, _≤_}
 use native.Mathlib.Omega.{arith}
 use mathlib.Core.Path.{_≡_, refl, sym, ap, ap₂, _∙_, subst}
-use mathlib.Core.Bool.{Bool, true, false, not, _&&_, _||_, cond, false≢true}
+use mathlib.Core.Bool.{Bool, true, false, not, _&&_, cond}
 use mathlib.Core.List.{List, [], _∷_, _++_, map}
-use borrow.Author.Tests.{eqb-true, eqb-false, ltb-false, not-false}
+use borrow.Author.Tests.{eq-eqb, eqb-true, eqb-false, ltb-false, not-false}
 use lib.Dec.{ltb}
-use lib.ListN.{length, length-append, length-map}
+use lib.ListN.{length, length-append}
 use Rattle.record.specs.Words.{all, Every}
 use Rattle.record.specs.Records.{recordCount, recordsOf, isWhole}
 use Rattle.record.specs.Vehicles.{good, vehicle, vehicles, isWorking}
 use Rattle.record.specs.declared.vehicle.Vehicle.{Vehicle}
-use Rattle.record.proofs.Records.{length-records, records-append}
-use Rattle.record.proofs.Vehicles.{both, all-append, vehicles-append}
-use Rattle.account.specs.Figures.{some}
+use Rattle.record.proofs.Records.{records-append}
+use Rattle.record.proofs.Vehicles.{both, all-append, length-vehicles, vehicles-append}
+use Rattle.record.specs.Figures.{some}
 use Rattle.account.specs.Accounts.{accountOf}
 use Rattle.account.specs.Ceilings.{within}
 use Rattle.account.specs.Joining.{joining}
 use Rattle.account.specs.Answers.{firstThatApplies, doneWith}
 use Rattle.account.specs.Portions.{portionRefusals, accounted, joinRefusals, joined}
-use Rattle.account.specs.Groupings.{GoodHauled, Portion, Grouping, portion, pair, uncut, joinedBytes, BetweenRecords, NoneRefused}
+use Rattle.account.specs.Groupings.{GoodHauled, Portion, GoodPortion, Grouping, portion, pair, uncut, joinedBytes, BetweenRecords, NoneRefused}
 use Rattle.account.specs.declared.Accounted.{Accounted}
 use Rattle.account.specs.declared.Answer.{Answer}
 use Rattle.account.specs.declared.Answer.the-variants.{Done, NotWhole, TooMany, BadField, WorkingEngine, AboveCeiling}
-use Rattle.account.proofs.Lists.{every-append}
+use Rattle.record.proofs.Lists.{neither, every-append}
 use Rattle.account.proofs.Ceils.{test-within, figure-at, portion-left, portion-right}
-use Rattle.account.proofs.Joins.{joined-accounts}
-use Rattle.account.proofs.Portions.{good-hauled, answer-0, none-working}
+use Rattle.account.proofs.Joins.{each-hauled, joined-accounts}
+use Rattle.account.proofs.Portions.{good-hauled, answer-0, hauled-not-working, none-working}
 
 -- ---- a portion that is done is whole, few, good and hauled
 pub record Sound (bs : List ℕ) : Type 0 where
@@ -46,10 +46,6 @@ hauled-each (r ∷ rs) g w =
     let t = both (good r) (all good rs) g in
     let n = neither (isWorking (vehicle r)) (some isWorking (map vehicle rs)) w in
     (good-hauled r (t .0) (eqb-false (vehicle r .kind) 2 (n .0)), hauled-each rs (t .1) (n .1))
-  where
-    neither : (p q : Bool) → (p || q) ≡ false → (p ≡ false) × (q ≡ false)
-    neither true q e = absurd (false≢true (sym e))
-    neither false q e = (refl, e)
 
 pub done-sound : (bs : List ℕ) → firstThatApplies (portionRefusals bs) ≡ Done → Sound bs
 unfolding portionRefusals
@@ -65,14 +61,36 @@ done-sound bs e =
       hauled =
           record {
             each = hauled-each (recordsOf bs) good (n6 .0);
-            few = omega (arith, length-map (recordsOf bs) vehicle, length-records (recordCount bs) bs, ltb-false 200 (recordCount bs) (n2 .0));
+            few = omega (arith, length-vehicles (recordCount bs) bs, ltb-false 200 (recordCount bs) (n2 .0));
           };
     }
 
 pub sound-done : (bs : List ℕ) → Sound bs → accounted bs ≡ doneWith (accountOf (vehicles bs))
 sound-done bs s =
-    let few : recordCount bs ≤ 200 = omega (arith, s .hauled .few, length-map (recordsOf bs) vehicle, length-records (recordCount bs) bs) in
+    let few : recordCount bs ≤ 200 = omega (arith, s .hauled .few, length-vehicles (recordCount bs) bs) in
     sym (answer-0 bs (s .whole) few (s .fine) (none-working (vehicles bs) (s .hauled .each)))
+
+-- the same over the records alone
+pub sound-good : (bs : List ℕ) → Sound bs → GoodPortion bs
+sound-good bs s =
+    record {
+      whole = eq-eqb (length bs % 24) 0 (s .whole);
+      few = omega (arith, s .hauled .few, length-vehicles (recordCount bs) bs);
+      each = s .fine;
+      hauled = each-hauled (vehicles bs) (s .hauled .each);
+    }
+
+pub good-sound : (bs : List ℕ) → GoodPortion bs → Sound bs
+good-sound bs g =
+    record {
+      whole = eqb-true (length bs % 24) 0 (g .whole);
+      fine = g .each;
+      hauled =
+          record {
+            each = hauled-each (recordsOf bs) (g .each) (hauled-not-working (vehicles bs) (g .hauled));
+            few = omega (arith, g .few, length-vehicles (recordCount bs) bs);
+          };
+    }
 
 -- what is cut between records is whole
 between : (g : Grouping ℕ) → BetweenRecords g → length (uncut g) % 24 ≡ 0
@@ -124,6 +142,23 @@ sound-grouped (pair left right) c s =
 
 pub bytes-grouped : (g : Grouping ℕ) → BetweenRecords g → firstThatApplies (portionRefusals (uncut g)) ≡ Done → joinedBytes g ≡ accounted (uncut g)
 bytes-grouped g c e = sound-grouped g c (done-sound (uncut g) e)
+
+-- ---- no call is refused
+sound-unrefused : (g : Grouping ℕ) → BetweenRecords g → Sound (uncut g) → NoneRefused g
+sound-unrefused (portion bs) c s = ap (λ (x : Accounted). x .answer) (sound-done bs s)
+sound-unrefused (pair left right) c s =
+    let a = uncut left in
+    let b = uncut right in
+    let cut = between left (c .0) in (
+      sound-unrefused left (c .0) (sound-left a b cut s),
+      sound-unrefused right (c .1) (sound-right a b cut s),
+      ap (λ (x : Accounted). x .answer) (sound-grouped (pair left right) c s ∙ sound-done (a ++ b) s),
+    )
+
+pub grouping-done : (g : Grouping ℕ) → BetweenRecords g → GoodPortion (uncut g) → NoneRefused g × (joinedBytes g ≡ doneWith (accountOf (vehicles (uncut g))))
+grouping-done g c p =
+    let s = good-sound (uncut g) p in
+    (sound-unrefused g c s, sound-grouped g c s ∙ sound-done (uncut g) s)
 
 -- ---- the same where no call was refused, whatever the cut
 done-grouped : (g : Grouping ℕ) → NoneRefused g → Sound (uncut g) × (joinedBytes g ≡ doneWith (accountOf (vehicles (uncut g))))

@@ -3,20 +3,20 @@ use Prim.Native.Nat.{ℕ, zero, suc, _≤_, _<_}
 use native.Mathlib.Omega.{arith}
 use mathlib.Core.Path.{_≡_, refl, ap, ap₂, _∙_}
 use mathlib.Core.Bool.{Bool, true, _&&_, cond}
-use mathlib.Core.List.{List, [], _∷_, _++_, map, reverse}
+use mathlib.Core.List.{List, [], _∷_, _++_, reverse}
 use borrow.Author.Tests.{le-leb, leb-true}
 use lib.Dec.{leb}
-use lib.ListN.{take, replicate, getD, length-append, length-reverse}
+use lib.ListN.{getD, length-append, length-reverse}
 use Rattle.record.specs.Words.{all, Every}
 use Rattle.record.specs.Vehicles.{value, nth, vehicle, isHauledEngine, isIsolated, isM, isV, hasDLoad}
 use Rattle.record.specs.declared.vehicle.Vehicle.{Vehicle}
 use Rattle.record.proofs.Vehicles.{both, chain, chain-all, at-most}
-use Rattle.account.specs.Figures.{firsts}
 use Rattle.account.specs.Accounts.{accountOf}
 use Rattle.account.specs.Ceilings.{Figure, _upTo_, figures, within, Within}
 use Rattle.account.specs.Groupings.{GoodHauled, Portion}
 use Rattle.account.specs.declared.Account.{Account}
-use Rattle.account.proofs.Lists.{sum-le, count-le, cond-le, leading-le, longest-le, least-top, every-left, every-right}
+use Rattle.record.proofs.Lists.{every-left, every-right}
+use Rattle.record.proofs.Figures.{sum-le, count-le, cond-le, leading-le, longest-le, least-top, firsts-le}
 
 -- ---- the test and the statement, over any table of figures
 abbrev fits : Figure → Bool
@@ -97,26 +97,6 @@ pub dload-le : (v : Vehicle) → GoodHauled v → v .dload ≤ 1
 unfolding vehicle
 dload-le = field-le (λ v. v .dload) 11 (omega arith) (λ r. refl)
 
--- the settings of the first five, and what pads them
-pad-small : (n k : ℕ) → getD (replicate n 4) k 0 ≤ 4
-pad-small zero k = omega arith
-pad-small (suc n) zero = omega arith
-pad-small (suc n) (suc k) = pad-small n k
-
-settings-small : (xs : List Vehicle) → Every GoodHauled xs → (k : ℕ) → getD (map (λ (v : Vehicle). v .setting) xs ++ replicate 5 4) k 0 ≤ 4
-settings-small [] e k = pad-small 5 k
-settings-small (x ∷ xs) e zero = omega (arith, setting-le x (e .0))
-settings-small (x ∷ xs) e (suc k) = settings-small xs (e .1) k
-
-take-small : (n : ℕ) (l : List ℕ) (k : ℕ) → ((j : ℕ) → getD l j 0 ≤ 4) → getD (take n l) k 0 ≤ 4
-take-small zero l k h = omega arith
-take-small (suc n) [] k h = omega arith
-take-small (suc n) (x ∷ l) zero h = h 0
-take-small (suc n) (x ∷ l) (suc k) h = take-small n l k (λ j. h (suc j))
-
-firsts-small : (xs : List Vehicle) → Every GoodHauled xs → (k : ℕ) → getD (firsts 5 4 (λ (v : Vehicle). v .setting) xs) k 0 ≤ 4
-firsts-small xs g k = take-small 5 (map (λ (v : Vehicle). v .setting) xs ++ replicate 5 4) k (settings-small xs g)
-
 infixr 1 _⊗_
 _⊗_ : {A B : Type 0} → A → B → A × B
 a ⊗ b = (a, b)
@@ -126,6 +106,7 @@ pub portion-ceilings : (hauled : List Vehicle) → Portion hauled → Within (ac
 unfolding accountOf
 portion-ceilings xs h =
     let g = h .each in
+    let settings-small = firsts-le 5 4 (λ (v : Vehicle). v .setting) GoodHauled 4 (omega arith) (λ v d. omega (arith, setting-le v d)) xs g in
     h .few
     ⊗ omega (arith, sum-le GoodHauled (λ v. v .mass) 2500 mass-le xs g)
     ⊗ omega (arith, sum-le GoodHauled (λ v. cond (isV v) (v .vmass) 0) 2500 (λ v d. cond-le (isV v) (v .vmass) 2500 (vmass-le v d)) xs g)
@@ -141,11 +122,11 @@ portion-ceilings xs h =
     ⊗ omega (arith, leading-le isIsolated (reverse xs), length-reverse xs)
     ⊗ omega (arith, longest-le isIsolated xs)
     ⊗ least-top 200 (λ (v : Vehicle). v .speed) xs
-    ⊗ firsts-small xs g 0
-    ⊗ firsts-small xs g 1
-    ⊗ firsts-small xs g 2
-    ⊗ firsts-small xs g 3
-    ⊗ firsts-small xs g 4
+    ⊗ settings-small 0
+    ⊗ settings-small 1
+    ⊗ settings-small 2
+    ⊗ settings-small 3
+    ⊗ settings-small 4
     ⊗ tt
 
 pub portion-left : (xs ys : List Vehicle) → Portion (xs ++ ys) → Portion xs

@@ -1,33 +1,40 @@
 -- Demand 3, first half, and what else document 01 says of accounts: the theorems, over the definitions of specs/;
--- `joined-in-code` also over the two contracts themselves. Assumes nothing.
-use Prim.Native.Nat.{ℕ, _+_, _≤_, _<_}
-use mathlib.Core.Path.{_≡_, refl, ap, _∙_}
+-- `joined-in-code` and `done-in-code` also over the two contracts themselves. Assumes nothing.
+use Prim.Native.Nat.{ℕ, _+_, _%_, _≤_, _<_}
+use mathlib.Core.Path.{_≡_, refl, sym, ap, _∙_}
 use mathlib.Core.Logic.{_⊎_}
-use mathlib.Core.Bool.{true, false, _&&_}
-use mathlib.Core.List.{List, [], _∷_, _++_, map, reverse, append-nil}
+use mathlib.Core.Bool.{Bool, true, false, _&&_, cond}
+use mathlib.Core.List.{List, [], _∷_, _++_, map, append-nil}
+use borrow.Author.Tests.{eqb-true}
+use lib.ListN.{length, getD}
 use Rattle.record.specs.Words.{_is_, all, leading, Every, Case, caseAt, First}
-use Rattle.record.specs.Records.{recordCount, records, recordsOf}
-use Rattle.record.specs.Vehicles.{good, isIsolated}
+use Rattle.record.specs.Figures.{some}
+use Rattle.record.specs.Records.{recordCount, records, recordsOf, isWhole}
+use Rattle.record.specs.Vehicles.{good, vehicle, vehicles, firstBad, foundNumber, foundPlace, isWorking}
 use Rattle.record.specs.declared.vehicle.Vehicle.{Vehicle}
 use Rattle.record.proofs.Cases.{first-applies, none-applies, first-or-none}
+use Rattle.record.proofs.Demands.{found-number, found-place}
 use Rattle.account.specs.Accounts.{accountOf, empty, sums}
-use Rattle.account.specs.Ceilings.{Within}
+use Rattle.account.specs.Ceilings.{_upTo_, figures, within, Within}
 use Rattle.account.specs.Joining.{joining}
-use Rattle.account.specs.Answers.{numberOf, placeOf, firstThatApplies, doneWith}
-use Rattle.account.specs.Portions.{portionRefusals, accounted, joinRefusals, joined}
-use Rattle.account.specs.Groupings.{Hauled, Portion, Grouping, uncut, joinedVehicles, joinedBytes, BetweenRecords, NoneRefused}
-use Rattle.account.specs.Readings.{firstIsolated, firstIsolatedBy, lastIsolated, lastIsolatedBy, firstFiveV, firstFiveVBy, afterFifthM, afterFifthMBy}
-use Rattle.account.specs.Speed.{wholeGood, slowestOf, holdsTheSpeed, Holds}
+use Rattle.account.specs.Answers.{numberOf, placeOf, firstThatApplies, doneWith, refusedBy}
+use Rattle.account.specs.Portions.{portionRefusals, engineOrBad, accounted, joinRefusals, joined}
+use Rattle.account.specs.Groupings.{Hauled, GoodHauled, Portion, GoodPortion, Grouping, uncut, joinedVehicles, joinedBytes, BetweenRecords, NoneRefused}
+use Rattle.account.specs.Speed.{firstWith, wholeGood, slowestOf, holdsTheSpeed, Holds}
 use Rattle.account.specs.declared.Account.{Account}
 use Rattle.account.specs.declared.Accounted.{Accounted}
 use Rattle.account.specs.declared.Answer.{Answer}
 use Rattle.account.specs.declared.Answer.the-variants.{Done}
-use Rattle.account.proofs.Ceils.{portion-ceilings}
+use Rattle.account.proofs.Ceils as ceils
+use Rattle.account.proofs.Ceils.{test-within, within-test, portion-ceilings}
+use Rattle.account.proofs.Joins as joins
 use Rattle.account.proofs.Joins.{account-append, grouped, exchanged, joined-accounts}
-use Rattle.account.proofs.Rules.{first-leading, some-firsts, some-after}
-use Rattle.account.proofs.Bytes.{bytes-grouped, bytes-done}
+use Rattle.account.proofs.Portions as portions
+use Rattle.account.proofs.Portions.{answer-3}
+use Rattle.account.proofs.Bytes as bytes
+use Rattle.account.proofs.Bytes.{done-sound, sound-done, sound-good, good-sound, bytes-grouped, bytes-done, grouping-done}
 use Rattle.account.proofs.Runs.{Ran, ran-joined}
-use Rattle.account.proofs.Speeds.{holds-is, two-hold}
+use Rattle.account.proofs.Speeds.{holds-is, two-hold, two-24, speed-bad, speed-many}
 
 -- ---- answers
 -- the numbers and the places of the refusals, in document 01's order
@@ -58,6 +65,48 @@ first-or-done = first-or-none Done
 pub done-when-none-applies : (rs : List (Case Answer)) → Every (λ r. r .applies ≡ false) rs → firstThatApplies rs ≡ Done
 done-when-none-applies = none-applies Done
 
+-- refusal 3 has the number and the place of what the scan for it finds
+pub refused-as-found : (bs : List ℕ) → isWhole bs ≡ true → recordCount bs ≤ 200 → all good (recordsOf bs) ≡ false
+    → (numberOf (accounted bs .answer) ≡ foundNumber (firstBad (recordsOf bs))) × (placeOf (accounted bs .answer) ≡ foundPlace (firstBad (recordsOf bs)))
+refused-as-found bs whole few bad =
+    let a = ap (λ (r : Accounted). r .answer) (sym (answer-3 bs (eqb-true (length bs % 24) 0 whole) few (leading good (recordsOf bs)) (bad, refl))) in (
+      ap numberOf a ∙ sym (found-number (recordsOf bs) ∙ ap (λ (b : Bool). cond b 0 3) bad),
+      ap placeOf a ∙ sym (found-place (recordsOf bs) ∙ ap (λ (b : Bool). cond b 0 (leading good (recordsOf bs))) bad),
+    )
+
+-- ---- one portion
+-- it is done exactly when it is whole records, at most 200, each good, each hauled; and then it has the account of its vehicles
+pub portion-done-exactly : (bs : List ℕ) → (accounted bs .answer ≡ Done → GoodPortion bs) × (GoodPortion bs → accounted bs ≡ doneWith (accountOf (vehicles bs)))
+portion-done-exactly bs = (λ done. sound-good bs (done-sound bs done), λ g. sound-done bs (good-sound bs g))
+
+-- its vehicles are at most 200 good hauled ones
+pub portion-of : (bs : List ℕ) → GoodPortion bs → Portion (vehicles bs)
+portion-of bs g = good-sound bs g .hauled
+
+-- good records of which none is a working engine are hauled, and no hauled one is a working engine
+pub hauled-each : (rs : List (List ℕ)) → all good rs ≡ true → some isWorking (map vehicle rs) ≡ false → Every GoodHauled (map vehicle rs)
+hauled-each = bytes.hauled-each
+
+pub hauled-not-working : (hauled : List Vehicle) → Every Hauled hauled → some isWorking hauled ≡ false
+hauled-not-working = portions.hauled-not-working
+
+-- of at most 200 whole records: 6 or, before it, 3 where there is a working engine; done where all are good and none works
+module _ (bs : List ℕ) (whole : length bs % 24 ≡ 0) (few : recordCount bs ≤ 200) where
+  pub answer-6 : some isWorking (vehicles bs) ≡ true → refusedBy (engineOrBad (recordsOf bs)) ≡ accounted bs
+  answer-6 = portions.answer-6 bs whole few
+
+  pub answer-0 : all good (recordsOf bs) ≡ true → some isWorking (vehicles bs) ≡ false → doneWith (accountOf (vehicles bs)) ≡ accounted bs
+  answer-0 = portions.answer-0 bs whole few
+
+-- ---- the ceilings
+-- the test holds exactly of the accounts within their ceilings
+pub within-exactly : (a : Account) → (within a ≡ true → Within a) × (Within a → within a ≡ true)
+within-exactly a = (test-within a, within-test a)
+
+-- a figure of such an account is at most its ceiling
+pub figure-at : (a : Account) → Within a → (k : ℕ) → getD (figures a) k (0 upTo 0) .figure ≤ getD (figures a) k (0 upTo 0) .ceiling
+figure-at = ceils.figure-at
+
 -- ---- cutting and joining
 -- the account of a list that is cut in two is its parts' accounts, joined
 pub account-of-append : (front back : List Vehicle) → Every Hauled front → accountOf (front ++ back) ≡ joining (accountOf front) (accountOf back)
@@ -66,6 +115,9 @@ account-of-append = account-append
 -- at most 200 good hauled records are within the ceilings
 pub within-ceilings : (hauled : List Vehicle) → Portion hauled → Within (accountOf hauled)
 within-ceilings = portion-ceilings
+
+pub portion-within : (hauled : List Vehicle) → Portion hauled → within (accountOf hauled) ≡ true
+portion-within = joins.portion-within
 
 -- so joining two portions of them is never refused
 pub never-refused : (front back : List Vehicle) → Portion (front ++ back) → joined (accountOf front) (accountOf back) ≡ doneWith (accountOf (front ++ back))
@@ -95,32 +147,21 @@ any-grouping-of-bytes = bytes-grouped
 pub any-grouping-not-refused : (g : Grouping ℕ) → NoneRefused g → joinedBytes g ≡ accounted (uncut g)
 any-grouping-not-refused = bytes-done
 
+-- good hauled records, at most 200 in all, cut anywhere between records: no portion and no joining is refused, in any grouping, and the account is the uncut list's
+pub any-grouping-done : (g : Grouping ℕ) → BetweenRecords g → GoodPortion (uncut g) → NoneRefused g × (joinedBytes g ≡ doneWith (accountOf (vehicles (uncut g))))
+any-grouping-done = grouping-done
+
 -- what the code gives, known by its contracts alone, is the account of the uncut bytes
 pub joined-in-code : (g : Grouping ℕ) (r : Accounted) → Ran g r → BetweenRecords g → accounted (uncut g) .answer ≡ Done → r ≡ accounted (uncut g)
 joined-in-code g r ran cut done = ran-joined ran ∙ bytes-grouped g cut done
+
+pub done-in-code : (g : Grouping ℕ) (r : Accounted) → Ran g r → BetweenRecords g → GoodPortion (uncut g) → r ≡ doneWith (accountOf (vehicles (uncut g)))
+done-in-code g r ran cut good = ran-joined ran ∙ grouping-done g cut good .1
 
 -- exchanging two neighbours leaves every sum as it was
 pub exchange-keeps-sums : (front back : List Vehicle) (v w : Vehicle)
     → sums (accountOf (front ++ (v ∷ w ∷ back))) ≡ sums (accountOf (front ++ (w ∷ v ∷ back)))
 exchange-keeps-sums = exchanged
-
--- ---- the rules over the figures
--- what 19, 20, 43 and 44 ask of runs and settings, read off the figures, is what they ask over the records
-pub rule-19 : (hauled : List Vehicle) → firstIsolated hauled ≡ firstIsolatedBy (accountOf hauled)
-unfolding accountOf
-rule-19 hauled = first-leading isIsolated hauled
-
-pub rule-20 : (hauled : List Vehicle) → lastIsolated hauled ≡ lastIsolatedBy (accountOf hauled)
-unfolding accountOf
-rule-20 hauled = first-leading isIsolated (reverse hauled)
-
-pub rule-43 : (hauled : List Vehicle) → firstFiveV hauled ≡ firstFiveVBy (accountOf hauled)
-unfolding accountOf
-rule-43 hauled = some-firsts (λ s. s is 2) (λ (v : Vehicle). v .setting) 4 refl 5 hauled
-
-pub rule-44 : (hauled : List Vehicle) → afterFifthM hauled ≡ afterFifthMBy (accountOf hauled)
-unfolding accountOf
-rule-44 hauled = some-after (λ s. s is 1) (λ (v : Vehicle). v .setting) 4 refl 5 hauled
 
 -- ---- the vehicle that holds the speed
 -- it is a record of the two portions, least, and first at a tie
@@ -131,3 +172,19 @@ holds-the-speed = two-hold
 -- and no other record does
 pub no-other-holds : (rs : List (List ℕ)) (r : List ℕ) → Holds rs r → slowestOf rs ≡ r
 no-other-holds = holds-is
+
+-- an empty part where both are empty, where a portion is not whole good records, and where they pass 200 together
+pub empty-of-none : holdsTheSpeed [] [] ≡ []
+unfolding holdsTheSpeed wholeGood slowestOf firstWith all records
+empty-of-none = refl
+
+pub empty-of-bad : (front back : List ℕ) → (wholeGood front && wholeGood back) ≡ false → holdsTheSpeed front back ≡ []
+empty-of-bad front back e = sym (speed-bad front back e)
+
+pub empty-of-many : (front back : List ℕ) → 200 < recordCount front + recordCount back → holdsTheSpeed front back ≡ []
+empty-of-many front back h = sym (speed-many front back h)
+
+-- else a record's 24 bytes
+pub else-24 : (front back : List ℕ) → (wholeGood front && wholeGood back) ≡ true → 0 < recordCount front + recordCount back → recordCount front + recordCount back ≤ 200
+    → length (holdsTheSpeed front back) ≡ 24
+else-24 = two-24

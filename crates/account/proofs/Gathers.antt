@@ -5,64 +5,25 @@ use native.Mathlib.Nat.{add-zero, zero-add}
 use native.Mathlib.Numerals.{add-one, one-add}
 use mathlib.Core.Path.{_≡_, refl, sym, ap, ap₂, subst, _∙_}
 use mathlib.Core.Bool.{Bool, true, false, not, _&&_, _||_, cond, or-false}
-use mathlib.Core.List.{List, [], _∷_, _++_, map, reverse, append-nil, map-append}
-use borrow.Author.Tests.{eq-eqb, ne-eqb, le-ltb, lt-ltb}
+use mathlib.Core.List.{List, [], _∷_, _++_, map, reverse}
+use borrow.Author.Tests.{le-ltb, lt-ltb}
 use lib.Dec.{eqb, ltb, leb·suc-suc}
-use lib.ListN.{length, getD, set, take, drop, replicate, length-map, length-reverse, length-take, length-append}
-use lib.Seq.{getD-take, getD-drop}
-use Rattle.record.specs.Words.{all, leading, Every}
-use Rattle.record.specs.Numbers.{littleEndian}
+use lib.ListN.{length, getD, set, take, drop, length-reverse}
+use Rattle.record.specs.Words.{leading, Every}
 use Rattle.record.specs.Records.{records}
 use Rattle.record.specs.Vehicles.{good, vehicle, reading, isWagon, isHauledEngine, isIsolated, isJoined, hasMatrossow, hasDLoad}
 use Rattle.record.specs.declared.vehicle.Vehicle.{Vehicle}
 use Rattle.record.specs.declared.vehicle.Reading.the-variants.{Good}
-use Rattle.record.proofs.Records.{recordAt, records-snoc, records-split, length-records}
-use Rattle.record.proofs.Vehicles.{all-snoc, leading-all, leading-to, vehicles-snoc}
-use Rattle.account.specs.Figures.{sum, count, some, trailing, longest, behind, least, firsts}
+use Rattle.record.proofs.Records.{recordAt}
+use Rattle.record.proofs.Vehicles.{length-vehicles, vehicles-snoc}
+use Rattle.record.specs.Figures.{sum, count, some, trailing, longest, behind, least}
 use Rattle.account.specs.Groupings.{Hauled, GoodHauled}
-use Rattle.account.specs.Gathering.{runningOf, withOne, Room, setTo, bySetting, Gathered, hasByte}
+use Rattle.account.specs.Gathering.{runningOf, withOne, Room, setTo, bySetting, Gathered}
 use Rattle.account.specs.declared.gather.Running.{Running}
-use Rattle.account.proofs.Lists.{sum-append, some-append, trailing-append, longest-append, least-append, least-top, sum-le, count-le, cond-le, leading-le, some-count, every-append}
+use Rattle.record.proofs.Lists.{every-append}
+use Rattle.record.proofs.Figures.{some-append, trailing-append, longest-append, least-append, least-top, sum-le, count-le, cond-le, leading-le, some-count, sum-one, count-one, trailing-longest, firsts-one, firsts-length}
 use Rattle.account.proofs.Ceils.{mass-le, vmass-le, mmass-le, length-le, axles-le, setting-le, joined-le, dload-le}
 use Rattle.account.proofs.Portions.{read-good}
-
--- ---- a run of records that have a byte
-module _ (at x : ℕ) (bs : List ℕ) where
-  byte-there : (k : ℕ) → at < 24 → getD (recordAt bs k) at 0 ≡ getD bs (24 * k + at) 0
-  byte-there k h = getD-take 24 (drop (24 * k) bs) at 0 h ∙ getD-drop (24 * k) bs at 0
-
-  pub run-more : (k : ℕ) → at < 24 → all (hasByte at x) (records k bs) ≡ true → getD bs (24 * k + at) 0 ≡ x → all (hasByte at x) (records (k + 1) bs) ≡ true
-  run-more k h t e = rw (add-one, records-snoc) (all-snoc (hasByte at x) (records k bs) (recordAt bs k) t (eq-eqb _ x (byte-there k h ∙ e)))
-
-  pub run-ends : (n k : ℕ) → at < 24 → k < n → all (hasByte at x) (records k bs) ≡ true → (getD bs (24 * k + at) 0 ≡ x → ⊥) → k ≡ leading (hasByte at x) (records n bs)
-  run-ends n k h l t e =
-      sym (length-records k bs)
-      ∙ sym (leading-to (hasByte at x) (recordAt bs k) (ne-eqb _ x (λ q. e (sym (byte-there k h) ∙ q))) _ (records k bs) t)
-      ∙ ap (leading (hasByte at x)) (sym (records-split n k bs l))
-
-  pub run-whole : (n : ℕ) → all (hasByte at x) (records n bs) ≡ true → n ≡ leading (hasByte at x) (records n bs)
-  run-whole n t = sym (length-records n bs) ∙ sym (leading-all (hasByte at x) (records n bs) t)
-
--- a field of one byte
-one-byte : (l : List ℕ) → littleEndian (take 1 l) ≡ getD l 0 0
-unfolding littleEndian
-one-byte [] = refl
-one-byte (b ∷ l) = omega arith
-
-byte-field : (r : List ℕ) (s : ℕ) → littleEndian (take 1 (drop s r)) ≡ getD r s 0
-byte-field r s = one-byte (drop s r) ∙ getD-drop s r 0 0 ∙ ap (λ (k : ℕ). getD r k 0) (add-zero s)
-
-leading-map : {A B : Type 0} (p : B → Bool) (q : A → Bool) (f : A → B) → ((x : A) → p (f x) ≡ q x) → (xs : List A) → leading p (map f xs) ≡ leading q xs
-leading-map p q f h [] = refl
-leading-map p q f h (x ∷ xs) = ap₂ (λ (b : Bool) (m : ℕ). cond b (suc m) 0) (h x) (leading-map p q f h xs)
-
-pub leading-isolated : (rs : List (List ℕ)) → leading isIsolated (map vehicle rs) ≡ leading (hasByte 18 0) rs
-unfolding vehicle
-leading-isolated = leading-map isIsolated (hasByte 18 0) vehicle (λ r. ap (λ (b : ℕ). eqb b 0) (byte-field r 18))
-
-pub leading-engines : (rs : List (List ℕ)) → leading isHauledEngine (map vehicle rs) ≡ leading (hasByte 17 1) rs
-unfolding vehicle
-leading-engines = leading-map isHauledEngine (hasByte 17 1) vehicle (λ r. ap (λ (b : ℕ). eqb b 1) (byte-field r 17))
 
 -- an engine stands behind a wagon where not all of them lead
 ahead-step : (k : ℕ) → k ≤ 1 → (s b : Bool) (l c : ℕ) → b ≡ ltb l c → s ≡ ltb 0 c
@@ -100,29 +61,6 @@ place-step (suc zero) h a b c d y = λ i. sym (add-zero a) i ∷ (b + y) ∷ sym
 place-step (suc (suc zero)) h a b c d y = λ i. sym (add-zero a) i ∷ sym (add-zero b) i ∷ (c + y) ∷ sym (add-zero d) i ∷ []
 place-step (suc (suc (suc zero))) h a b c d y = λ i. sym (add-zero a) i ∷ sym (add-zero b) i ∷ sym (add-zero c) i ∷ (d + y) ∷ []
 place-step (suc (suc (suc (suc s)))) h a b c d y = absurd (omega arith)
-
-pads : (m k : ℕ) → m ≤ k → take {A = ℕ} m (replicate k 4) ≡ replicate m 4
-pads zero k h = refl
-pads (suc m) zero h = absurd (omega arith)
-pads (suc m) (suc k) h = ap {B = List ℕ} (λ l. 4 ∷ l) (pads m k (omega arith))
-
-first-step : (n k : ℕ) (u : List ℕ) (y : ℕ) → n ≤ k → take {A = ℕ} n ((u ++ y ∷ []) ++ replicate k 4) ≡ set (take n (u ++ replicate k 4)) (length u) y
-first-step zero k [] y h = refl
-first-step (suc n) zero [] y h = absurd (omega arith)
-first-step (suc n) (suc k) [] y h = ap {B = List ℕ} (λ l. y ∷ l) (pads n (suc k) (omega arith) ∙ sym (pads n k (omega arith)))
-first-step zero k (x ∷ u) y h = refl
-first-step (suc n) k (x ∷ u) y h = ap {B = List ℕ} (λ l. x ∷ l) (first-step n k u y (omega arith))
-
--- ---- one more, over any list
-module _ {A : Type 0} where
-  sum-one : (f : A → ℕ) (xs : List A) (v : A) → sum f (xs ++ (v ∷ [])) ≡ sum f xs + f v
-  sum-one f xs v = omega (arith, sum-append f xs (v ∷ []))
-
-  count-one : (p : A → Bool) (xs : List A) (v : A) (k : ℕ) → cond (p v) 1 0 ≡ k → count p (xs ++ (v ∷ [])) ≡ count p xs + k
-  count-one p xs v k e = sum-one (λ x. cond (p x) 1 0) xs v ∙ ap (λ (m : ℕ). count p xs + m) e
-
-  trailing-longest : (p : A → Bool) (xs : List A) → trailing p xs ≤ longest p xs
-  trailing-longest p xs = omega (arith, longest-append p xs [], ap (longest p) (append-nil xs))
 
 -- ---- one vehicle more
 pub running-more : (xs : List Vehicle) (v : Vehicle) → GoodHauled v → runningOf (xs ++ (v ∷ [])) ≡ withOne (runningOf xs) v
@@ -173,16 +111,6 @@ module _ (f : Vehicle → ℕ) (xs : List Vehicle) where
     by-room : (v : Vehicle) → GoodHauled v → length xs ≤ 200 → (v .setting < 4) × (getD (bySetting f xs) (v .setting) 0 + f v < 2 ^ 32)
     by-room v g h = (omega (arith, setting-le v g), omega (arith, by-le (v .setting), small v g))
 
-pub first-more : (xs : List Vehicle) (v : Vehicle) → set (firsts 5 4 (λ v. v .setting) xs) (length xs) (v .setting) ≡ firsts 5 4 (λ v. v .setting) (xs ++ (v ∷ []))
-first-more xs v =
-    ap (λ (k : ℕ). set (firsts 5 4 (λ v. v .setting) xs) k (v .setting)) (sym (length-map xs (λ v. v .setting)))
-    ∙ sym (first-step 5 5 (map (λ v. v .setting) xs) (v .setting) (omega arith))
-    ∙ ap (λ (l : List ℕ). take 5 (l ++ replicate 5 4)) (sym (map-append (λ v. v .setting) xs (v ∷ [])))
-
-first-five : (xs : List Vehicle) → length (firsts 5 4 (λ v. v .setting) xs) ≡ 5
-first-five xs =
-    omega (arith, length-take 5 (map (λ (v : Vehicle). v .setting) xs ++ replicate 5 4), length-append (map (λ (v : Vehicle). v .setting) xs) (replicate 5 4))
-
 running-room : (xs : List Vehicle) → Every GoodHauled xs → length xs ≤ 200 → (v : Vehicle) → GoodHauled v → Room (runningOf xs) v
 unfolding runningOf
 running-room xs each few v g =
@@ -198,9 +126,6 @@ running-room xs each few v g =
 
 -- ---- a turn of the loop over the records
 module _ (bs : List ℕ) (i : ℕ) where
-  pub length-before : length (map vehicle (records i bs)) ≡ i
-  length-before = length-map (records i bs) vehicle ∙ length-records i bs
-
   vehicles-more : (v : Vehicle) → v ≡ vehicle (recordAt bs i) → map vehicle (records i bs) ++ (v ∷ []) ≡ map vehicle (records (i + 1) bs)
   vehicles-more v e =
       ap (λ (w : Vehicle). map vehicle (records i bs) ++ (w ∷ [])) e
@@ -228,7 +153,7 @@ module _ (bs : List ℕ) (i : ℕ) where
         vmass = added (λ v. v .vmass) vs vs' (h .vmass) ev;
         mmass = added (λ v. v .mmass) ms ms' (h .mmass) em;
         vaxles = added (λ v. v .axles) axs axs' (h .vaxles) ea;
-        five = ef ∙ ap₂ (λ (l : List ℕ) (k : ℕ). set l k (v .setting)) (h .five) (sym length-before) ∙ first-more xs v;
+        five = ef ∙ ap₂ (λ (l : List ℕ) (k : ℕ). set l k (v .setting)) (h .five) (sym (length-vehicles i bs)) ∙ firsts-one 5 4 (λ (v : Vehicle). v .setting) xs v;
       })
 
 -- a figure by setting has room for one record more
@@ -253,7 +178,7 @@ pub turn : (bs : List ℕ) (i : ℕ) (v : Vehicle) → Good v ≡ reading (take 
 turn bs i v e w h a c vs ms axs first g =
     let xs = map vehicle (records i bs) in
     let r = read-good bs i v e w in
-    let few : length xs ≤ 200 = omega (arith, length-before bs i) in
+    let few : length xs ≤ 200 = omega (arith, length-vehicles i bs) in
     record {
       fine = r .0;
       says = r .1;
@@ -262,6 +187,6 @@ turn bs i v e w h a c vs ms axs first g =
       vmass = by-fits (λ v. v .vmass) vmass-le xs vs (g .vmass) (g .each) v (r .2) few;
       mmass = by-fits (λ v. v .mmass) mmass-le xs ms (g .mmass) (g .each) v (r .2) few;
       vaxles = by-fits (λ v. v .axles) (λ v d. omega (arith, axles-le v d)) xs axs (g .vaxles) (g .each) v (r .2) few;
-      five = ap length (g .five) ∙ first-five xs;
+      five = ap length (g .five) ∙ firsts-length 5 4 (λ (v : Vehicle). v .setting) xs;
       room = subst (λ (b : Running). Room b v) (sym (g .running)) (running-room xs (g .each) few v (r .2));
     }

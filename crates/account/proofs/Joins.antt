@@ -9,7 +9,7 @@ use lib.ListN.{length, length-append}
 use Rattle.record.specs.Words.{Every, leading}
 use Rattle.record.specs.Vehicles.{isWagon, isHauledEngine, isIsolated, isM, isV, isR, isJoined, hasMatrossow, hasDLoad}
 use Rattle.record.specs.declared.vehicle.Vehicle.{Vehicle}
-use Rattle.account.specs.Figures.{sum, count, longest, behind}
+use Rattle.record.specs.Figures.{sum, count, longest, behind}
 use Rattle.account.specs.Accounts.{accountOf, sums}
 use Rattle.account.specs.Ceilings.{within}
 use Rattle.account.specs.Joining.{joining}
@@ -19,7 +19,8 @@ use Rattle.account.specs.Groupings.{Hauled, GoodHauled, Portion, Groupin
 use Rattle.account.specs.declared.Account.{Account}
 use Rattle.account.specs.declared.Accounted.{Accounted}
 use Rattle.account.specs.declared.Answer.the-variants.{TooMany, AboveCeiling}
-use Rattle.account.proofs.Lists.{sum-append, count-append, some-append, leading-append, trailing-append, longest-append, behind-append, some-count, some-same, lack-count, least-append, firsts-append, every-map}
+use Rattle.record.proofs.Lists.{every-map}
+use Rattle.record.proofs.Figures.{sum-append, count-append, some-append, leading-append, trailing-append, longest-append, behind-append, some-count, some-same, lack-count, least-append, firsts-append, sum-exchange, length-exchange}
 use Rattle.account.proofs.Ceils.{within-test, portion-ceilings, portion-left, portion-right}
 
 -- of a hauled vehicle, what is no hauled engine is a wagon
@@ -62,7 +63,7 @@ account-append xs ys h =
       rule17 = some-append (λ v. not (isJoined v)) xs ys i;
       rule18 = some-append (λ v. isWagon v && hasMatrossow v && not (isIsolated v)) xs ys i;
       slowest = least-append 200 (λ v. v .speed) xs ys i;
-      first = firsts-append (λ v. v .setting) xs ys i;
+      first = firsts-append 5 4 (λ v. v .setting) xs ys i;
     }
 
 pub each-hauled : (xs : List Vehicle) → Every GoodHauled xs → Every Hauled xs
@@ -104,13 +105,6 @@ grouped (pair left right) h =
     ∙ joined-accounts (uncut left) (uncut right) h
 
 -- ---- two neighbours exchanged
-module _ {A : Type 0} (xs ys : List A) (a b : A) where
-  sum-exchange : (f : A → ℕ) → sum f (xs ++ (a ∷ b ∷ ys)) ≡ sum f (xs ++ (b ∷ a ∷ ys))
-  sum-exchange f = omega (arith, sum-append f xs (a ∷ b ∷ ys), sum-append f xs (b ∷ a ∷ ys))
-
-  length-exchange : length (xs ++ (a ∷ b ∷ ys)) ≡ length (xs ++ (b ∷ a ∷ ys))
-  length-exchange = length-append xs (a ∷ b ∷ ys) ∙ sym (length-append xs (b ∷ a ∷ ys))
-
 pub exchanged : (xs ys : List Vehicle) (a b : Vehicle)
     → sums (accountOf (xs ++ (a ∷ b ∷ ys))) ≡ sums (accountOf (xs ++ (b ∷ a ∷ ys)))
 unfolding accountOf

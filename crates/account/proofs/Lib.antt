@@ -1,11 +1,9 @@
-pub mod Lists
 pub mod Ceils
 pub mod Joins
 pub mod Portions
 pub mod Gathers
 pub mod Bytes
 pub mod Speeds
-pub mod Rules
 pub mod Unique
 pub mod Runs
 pub mod Demands

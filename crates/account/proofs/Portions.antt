@@ -1,9 +1,9 @@
 -- The records of a portion, one after the other, and what the portion is answered. Assumes nothing.
 use Prim.Native.Nat.{ℕ, _+_, _*_, _-_, _%_, _≤_, _<_}
 use native.Mathlib.Omega.{arith}
-use mathlib.Core.Path.{_≡_, refl, sym, ap, ap₂, subst, _∙_}
-use mathlib.Core.Bool.{Bool, true, false, not, _||_, cond, or-true}
-use mathlib.Core.List.{List, [], _∷_, _++_, map, map-append}
+use mathlib.Core.Path.{_≡_, refl, sym, ap, subst, _∙_}
+use mathlib.Core.Bool.{Bool, true, false, not, cond}
+use mathlib.Core.List.{List, _∷_, map, map-append}
 use borrow.Author.Tests.{eq-eqb, ne-eqb, lt-ltb, le-ltb}
 use lib.ListN.{length, take, drop}
 use Rattle.record.specs.Words.{all, leading, Every}
@@ -13,22 +13,24 @@ use Rattle.record.specs.declared.vehicle.Vehicle.{Vehicle}
 use Rattle.record.specs.declared.vehicle.Reading.the-variants.{Good}
 use Rattle.record.proofs.Records.{recordAt, records-split}
 use Rattle.record.proofs.Vehicles.{at-most, part-good}
-use Rattle.account.specs.Figures.{some}
+use Rattle.record.specs.Figures.{some}
 use Rattle.account.specs.Accounts.{accountOf}
 use Rattle.account.specs.Answers.{doneWith, refusedBy, answered}
 use Rattle.account.specs.Portions.{portionRefusals, engineOrBad, accounted}
-use Rattle.account.specs.Groupings.{GoodHauled}
+use Rattle.account.specs.Groupings.{Hauled, GoodHauled}
 use Rattle.account.specs.declared.Account.{Account}
 use Rattle.account.specs.declared.Answer.the-variants.{NotWhole, TooMany, BadField, WorkingEngine}
-use Rattle.account.proofs.Lists.{some-append}
+use Rattle.record.proofs.Lists.{every-map}
+use Rattle.record.proofs.Figures.{some-there, each-none}
+use Rattle.account.proofs.Joins.{each-hauled}
 
 -- ---- working engines
-pub none-working : (xs : List Vehicle) → Every GoodHauled xs → some isWorking xs ≡ false
-none-working [] e = refl
-none-working (x ∷ xs) e = ap₂ _||_ (ne-eqb (x .kind) 2 (λ q. omega (arith, e .0 .hauled))) (none-working xs (e .1))
+pub hauled-not-working : (xs : List Vehicle) → Every Hauled xs → some isWorking xs ≡ false
+hauled-not-working xs e =
+    each-none isWorking xs (every-map Hauled (λ v. isWorking v ≡ false) (λ v h. ne-eqb (v .kind) 2 (λ q. omega arith)) xs e)
 
-some-there : {A : Type 0} (p : A → Bool) (xs : List A) (x : A) (ys : List A) → p x ≡ true → some p (xs ++ x ∷ ys) ≡ true
-some-there p xs x ys e = some-append p xs (x ∷ ys) ∙ ap (λ (b : Bool). some p xs || (b || some p ys)) e ∙ or-true (some p xs)
+pub none-working : (xs : List Vehicle) → Every GoodHauled xs → some isWorking xs ≡ false
+none-working xs e = hauled-not-working xs (each-hauled xs e)
 
 pub working-there : (bs : List ℕ) (i : ℕ) → i < recordCount bs → isWorking (vehicle (recordAt bs i)) ≡ true → some isWorking (vehicles bs) ≡ true
 working-there bs i h e =

@@ -4,7 +4,7 @@ use native.Mathlib.Nat.{not-suc-le-zero, le-of-suc-le-suc}
 use native.Mathlib.Numerals.{add-one}
 use native.Mathlib.Omega.{arith}
 use mathlib.Core.Path.{_≡_, refl, sym, ap, ap₂, _∙_, subst}
-use mathlib.Core.Bool.{Bool, true, false, _&&_, cond}
+use mathlib.Core.Bool.{Bool, true, false, _&&_, cond, and-false}
 use mathlib.Core.List.{List, [], _∷_, _++_}
 use borrow.Author.Tests.{lt-ltb, le-ltb, ltb-true, ltb-false, le-leb, lt-leb}
 use lib.Dec.{ltb, leb}
@@ -14,15 +14,10 @@ use native.Mathlib.Decide.{decLt}
 use Rattle.record.specs.Words.{all}
 use Rattle.record.specs.Records.{recordCount, recordsOf}
 use Rattle.record.proofs.Records.{recordAt, length-records, records-at, record-length}
-use Rattle.record.proofs.Vehicles.{all-not}
+use Rattle.record.proofs.Lists.{all-not, all-from, length-zero}
 use Rattle.account.specs.Speed.{firstWith, byte20, slowestOf, wholeGood, holdsTheSpeed, Holds}
 
 -- ---- the first that has p
-all-from : {A : Type 0} (p : A → Bool) (d : A) (xs : List A) → ((j : ℕ) → j < length xs → p (getD xs j d) ≡ true) → all p xs ≡ true
-unfolding all
-all-from p d [] h = refl
-all-from p d (x ∷ xs) h = ap₂ _&&_ (h 0 (omega arith)) (all-from p d xs (λ j l. h (suc j) (omega arith)))
-
 first-at : (p : List ℕ → Bool) (rs : List (List ℕ)) (i : ℕ) → i < length rs → p (getD rs i []) ≡ true → ((j : ℕ) → j < i → p (getD rs j []) ≡ false)
     → firstWith p rs ≡ getD rs i []
 unfolding firstWith
@@ -175,21 +170,17 @@ pub length-two : (front back : List ℕ) → length (recordsOf front ++ recordsO
 length-two front back =
     omega (arith, length-append (recordsOf front) (recordsOf back), length-records (recordCount front) front, length-records (recordCount back) back)
 
-length-zero : {A : Type 0} (xs : List A) → length xs ≡ 0 → xs ≡ []
-length-zero [] e = refl
-length-zero (x ∷ xs) e = absurd (omega arith)
-
 -- ---- what two portions are answered
 module _ (front back : List ℕ) where
   pub speed-bad : (wholeGood front && wholeGood back) ≡ false → [] ≡ holdsTheSpeed front back
   unfolding holdsTheSpeed
   speed-bad e = simp e
 
-  module _ (good : (wholeGood front && wholeGood back) ≡ true) where
-    pub speed-many : 200 < recordCount front + recordCount back → [] ≡ holdsTheSpeed front back
-    unfolding holdsTheSpeed
-    speed-many h = simp (good, lt-leb (recordCount front + recordCount back) 200 h)
+  pub speed-many : 200 < recordCount front + recordCount back → [] ≡ holdsTheSpeed front back
+  unfolding holdsTheSpeed
+  speed-many h = simp (lt-leb (recordCount front + recordCount back) 200 h, and-false (wholeGood front && wholeGood back))
 
+  module _ (good : (wholeGood front && wholeGood back) ≡ true) where
     pub speed-found : recordCount front + recordCount back ≤ 200 → slowestOf (recordsOf front ++ recordsOf back) ≡ holdsTheSpeed front back
     unfolding holdsTheSpeed
     speed-found h = simp (good, le-leb (recordCount front + recordCount back) 200 h)
@@ -204,3 +195,9 @@ pub two-hold : (front back : List ℕ) → (wholeGood front && wholeGood back) �
 two-hold front back good some few =
     subst (Holds (recordsOf front ++ recordsOf back)) (speed-found front back good few)
     (list-holds (recordsOf front ++ recordsOf back) (omega (arith, length-two front back)))
+
+pub two-24 : (front back : List ℕ) → (wholeGood front && wholeGood back) ≡ true → 0 < recordCount front + recordCount back → recordCount front + recordCount back ≤ 200
+    → length (holdsTheSpeed front back) ≡ 24
+two-24 front back good some few =
+    let h = two-hold front back good some few in
+    ap length (h .there) ∙ record-24 front back (h .place) (omega (arith, h .within, length-two front back))

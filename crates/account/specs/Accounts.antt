@@ -6,7 +6,7 @@ use lib.ListN.{length}
 use Rattle.record.specs.Words.{leading}
 use Rattle.record.specs.Vehicles.{isWagon, isHauledEngine, isIsolated, isM, isV, isR, isJoined, hasMatrossow, hasDLoad}
 use Rattle.record.specs.declared.vehicle.Vehicle.{Vehicle}
-use Rattle.account.specs.Figures.{sum, count, some, trailing, longest, behind, least, firsts}
+use Rattle.record.specs.Figures.{sum, count, some, trailing, longest, behind, least, firsts}
 use Rattle.account.specs.declared.Account.{Account}
 
 unfoldable pub accountOf : List Vehicle → Account

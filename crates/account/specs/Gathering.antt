@@ -1,13 +1,12 @@
 -- The account as one loop gathers it: sums by setting, the other figures, and the first five. Private functions promise it to each other; no public contract reads it.
 use Prim.Native.Nat.{ℕ, _+_, _<_, _^_, min, max}
 use mathlib.Core.Path.{_≡_}
-use mathlib.Core.Bool.{Bool, not, _&&_, _||_, cond}
+use mathlib.Core.Bool.{not, _&&_, _||_, cond}
 use mathlib.Core.List.{List, [], _∷_}
-use lib.ListN.{getD}
 use Rattle.record.specs.Words.{_is_, Every}
 use Rattle.record.specs.Vehicles.{isWagon, isHauledEngine, isIsolated, isJoined, hasMatrossow, hasDLoad}
 use Rattle.record.specs.declared.vehicle.Vehicle.{Vehicle}
-use Rattle.account.specs.Figures.{sum, count, some, trailing, longest, least, firsts}
+use Rattle.record.specs.Figures.{sum, count, some, trailing, longest, least, firsts}
 use Rattle.account.specs.Groupings.{GoodHauled}
 use Rattle.account.specs.declared.gather.Running.{Running}
 
@@ -69,7 +68,3 @@ pub record Gathered (xs : List Vehicle) (a : Running) (counts vs ms vas first : 
   pub mmass : ms ≡ bySetting (λ v. v .mmass) xs
   pub vaxles : vas ≡ bySetting (λ v. v .axles) xs
   pub five : first ≡ firsts 5 4 (λ v. v .setting) xs
-
--- whether a record has x at a byte
-abbrev pub hasByte : ℕ → ℕ → List ℕ → Bool
-hasByte at x r = getD r at 0 is x

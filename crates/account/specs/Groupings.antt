@@ -4,9 +4,9 @@ use mathlib.Core.Path.{_≡_}
 use mathlib.Core.Bool.{true}
 use mathlib.Core.List.{List, _++_}
 use lib.ListN.{length}
-use Rattle.record.specs.Words.{Every}
-use Rattle.record.specs.Records.{isWhole}
-use Rattle.record.specs.Vehicles.{good, vehicle}
+use Rattle.record.specs.Words.{all, Every}
+use Rattle.record.specs.Records.{recordCount, recordsOf, isWhole}
+use Rattle.record.specs.Vehicles.{good, vehicle, vehicles}
 use Rattle.record.specs.declared.vehicle.Vehicle.{Vehicle}
 use Rattle.account.specs.Accounts.{accountOf}
 use Rattle.account.specs.Answers.{doneWith}
@@ -29,6 +29,13 @@ pub record GoodHauled (v : Vehicle) : Type 0 where
 pub record Portion (hauled : List Vehicle) : Type 0 where
   pub each : Every GoodHauled hauled
   pub few : length hauled ≤ 200
+
+-- a portion lent as bytes: whole records, at most 200, each good, each hauled
+pub record GoodPortion (bs : List ℕ) : Type 0 where
+  pub whole : isWhole bs ≡ true
+  pub few : recordCount bs ≤ 200
+  pub each : all good (recordsOf bs) ≡ true
+  pub hauled : Every Hauled (vehicles bs)
 
 -- a list cut into portions, and the portions grouped: each pair is of neighbours
 pub data Grouping (A : Type 0) : Type 0 where

@@ -1,4 +1,3 @@
-pub mod Figures
 pub mod Accounts
 pub mod Ceilings
 pub mod Joining
@@ -6,5 +5,4 @@ pub mod Answers
 pub mod Portions
 pub mod Groupings
 pub mod Gathering
-pub mod Readings
 pub mod Speed

@@ -1,11 +1,10 @@
 // The figures of one account: the empty one, the ceilings.
 ghost use mathlib.Core.Path.{_≡_};
-ghost use Prim.Native.Nat.{min};
 ghost use Rattle.account.specs.Accounts.{empty};
 ghost use Rattle.account.specs.Ceilings.{within};
 use crate::Account;
 
-pub fn empty_account() -> Account
+pub(crate) fn empty_account() -> Account
     ensures { λ r. ⌜ r ≡ empty ⌝ }
 {
     Account {
@@ -33,7 +32,7 @@ pub fn empty_account() -> Account
 }
 
 // Whether no figure is above its ceiling.
-pub fn is_within(a: Account) -> bool
+pub(crate) fn is_within(a: Account) -> bool
     ensures { λ r. ⌜ r ≡ within a ⌝ }
 {
     let first = a.first;
@@ -57,10 +56,4 @@ pub fn is_within(a: Account) -> bool
         & (first[2] <= 4)
         & (first[3] <= 4)
         & (first[4] <= 4)
-}
-
-pub fn lesser(x: u32, y: u32) -> u32
-    ensures { λ r. ⌜ r ≡ min x y ⌝ }
-{
-    if x < y { x } else { y }
 }

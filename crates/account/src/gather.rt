@@ -4,33 +4,34 @@ ghost use mathlib.Core.Bool.{cond};
 ghost use mathlib.Core.List.{[]};
 ghost use Prim.Native.Nat.{_+_, _<_, _≤_, _^_};
 ghost use lib.ListN.{length, getD, set};
-ghost use Rattle.record.specs.Records.{recordCount, recordsOf};
+ghost use Rattle.record.specs.Records.{recordCount};
 ghost use Rattle.record.specs.Vehicles.{vehicles};
-ghost use Rattle.record.specs.Words.{leading};
 ghost use Rattle.account.specs.Accounts.{accountOf};
-ghost use Rattle.account.specs.Gathering.{Room, Gathered, runningOf, withOne, hasByte};
+ghost use Rattle.account.specs.Gathering.{Room, Gathered, runningOf, withOne};
 use crate::Account;
-use crate::figure::lesser;
 use crate::joining::greater;
 use crate::joining::sum;
+use record::number::lesser;
 use record::vehicle::SIZE;
 use record::vehicle::Vehicle;
+use record::vehicle::leading_engines;
+use record::vehicle::leading_isolated;
 
 // The figures that are not sums by setting, and how many records are joined.
-pub struct Running {
-    pub mass: u32,
-    pub length: u32,
-    pub axles: u32,
-    pub engines: u32,
-    pub dloads: u32,
-    pub joined: u32,
-    pub trailing: u32,
-    pub longest: u32,
-    pub rule18: bool,
-    pub slowest: u32,
+pub(crate) struct Running {
+    pub(crate) mass: u32,
+    pub(crate) length: u32,
+    pub(crate) axles: u32,
+    pub(crate) engines: u32,
+    pub(crate) dloads: u32,
+    pub(crate) joined: u32,
+    pub(crate) trailing: u32,
+    pub(crate) longest: u32,
+    pub(crate) rule18: bool,
+    pub(crate) slowest: u32,
 }
 
-pub fn none_yet() -> Running
+pub(crate) fn none_yet() -> Running
     ensures { λ r. ⌜ r ≡ runningOf [] ⌝ }
 {
     Running {
@@ -56,7 +57,7 @@ fn run_to(isolated: bool, run: u32) -> u32
 }
 
 // One record more. Marks of 0 and 1 add as they are.
-pub fn with_one(so_far: Running, v: Vehicle) -> Running
+pub(crate) fn with_one(so_far: Running, v: Vehicle) -> Running
     requires { ⌜ Room «so_far» v ⌝ }
     ensures { λ r. ⌜ r ≡ withOne «so_far» v ⌝ }
 {
@@ -76,7 +77,7 @@ pub fn with_one(so_far: Running, v: Vehicle) -> Running
 }
 
 // Adds to the figure of a setting: an index in place of four tests.
-pub fn add_at(figure: &mut [u32; 4], setting: u32, x: u32)
+pub(crate) fn add_at(figure: &mut [u32; 4], setting: u32, x: u32)
     requires { ⌜ (setting < 4) × (getD (now figure) setting 0 + x < 2 ^ 32) ⌝ }
     ensures { λ _. ⌜ now (figure .exit) ≡ set (now (figure .entry)) setting (getD (now (figure .entry)) setting 0 + x) ⌝ }
 {
@@ -84,7 +85,7 @@ pub fn add_at(figure: &mut [u32; 4], setting: u32, x: u32)
 }
 
 // Sets the setting at place `i`, where it is one of the first five.
-pub fn set_at(first: &mut [u32; 5], i: usize, setting: u32)
+pub(crate) fn set_at(first: &mut [u32; 5], i: usize, setting: u32)
     requires { ⌜ length (now first) ≡ 5 ⌝ }
     ensures { λ _. ⌜ now (first .exit) ≡ set (now (first .entry)) i setting ⌝ }
 {
@@ -93,24 +94,8 @@ pub fn set_at(first: &mut [u32; 5], i: usize, setting: u32)
     }
 }
 
-// How many records from the first on have `x` at byte `at`.
-fn leading_with(portion: &[u8], at: usize, x: u8) -> usize
-    requires { ⌜ at < 24 ⌝ }
-    ensures { λ r. ⌜ r ≡ leading (hasByte at x) (recordsOf (now (portion .entry))) ⌝ }
-{
-    let n = portion.len() / SIZE;
-    let mut k = 0;
-    while k < n {
-        if portion[SIZE * k + at] != x {
-            return k;
-        }
-        k += 1;
-    }
-    n
-}
-
 // The account of a portion, out of what was gathered of it. Settings: 0 isolated, 1 M, 2 V, 3 R.
-pub fn account_from(
+pub(crate) fn account_from(
     portion: &[u8],
     running: Running,
     counts: [u32; 4],
@@ -124,9 +109,8 @@ pub fn account_from(
     ensures { λ r. ⌜ r ≡ accountOf (vehicles (now (portion .entry))) ⌝ }
 {
     let count = (portion.len() / SIZE) as u32;
-    // byte 18, the setting; byte 17, the kind
-    let leading = leading_with(portion, 18, 0) as u32;
-    let engines_ahead = leading_with(portion, 17, 1) as u32;
+    let leading = leading_isolated(portion) as u32;
+    let engines_ahead = leading_engines(portion) as u32;
     Account {
         count: count,
         mass: running.mass,

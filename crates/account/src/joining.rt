@@ -4,15 +4,15 @@ ghost use Prim.Native.Nat.{_+_, _<_, _^_, max};
 ghost use Rattle.account.specs.Ceilings.{Within};
 ghost use Rattle.account.specs.Joining.{onward, fill, joining};
 use crate::Account;
-use crate::figure::lesser;
+use record::number::lesser;
 
-pub fn greater(x: u32, y: u32) -> u32
+pub(crate) fn greater(x: u32, y: u32) -> u32
     ensures { λ r. ⌜ r ≡ max x y ⌝ }
 {
     if x < y { y } else { x }
 }
 
-pub fn sum(x: u32, y: u32) -> u32
+pub(crate) fn sum(x: u32, y: u32) -> u32
     requires { ⌜ x + y < 2 ^ 32 ⌝ }
     ensures { λ r. ⌜ r ≡ x + y ⌝ }
 {
@@ -43,7 +43,7 @@ fn fill_first(n: u32, left: [u32; 5], right: [u32; 5]) -> [u32; 5]
     first
 }
 
-pub fn add(left: Account, right: Account) -> Account
+pub(crate) fn add(left: Account, right: Account) -> Account
     requires { ⌜ Within left ⌝ }
     requires { ⌜ Within right ⌝ }
     ensures { λ r. ⌜ r ≡ joining left right ⌝ }

@@ -9,7 +9,7 @@ use record::vehicle::Found;
 use record::vehicle::SIZE;
 use record::vehicle::first_bad;
 
-pub fn is_whole_good(portion: &[u8]) -> bool
+pub(crate) fn is_whole_good(portion: &[u8]) -> bool
     ensures { λ r. ⌜ r ≡ wholeGood (now (portion .entry)) ⌝ }
 {
     if portion.len() % SIZE != 0 {
@@ -35,7 +35,7 @@ fn record_at<'a>(front: &'a [u8], back: &'a [u8], n: usize, k: usize) -> &'a [u8
     &back[at..at + SIZE]
 }
 
-pub fn slowest<'a>(front: &'a [u8], back: &'a [u8], n: usize) -> &'a [u8]
+pub(crate) fn slowest<'a>(front: &'a [u8], back: &'a [u8], n: usize) -> &'a [u8]
     requires { ⌜ (n ≡ recordCount (now front) + recordCount (now back)) × (0 < n) ⌝ }
     ensures { λ r. ⌜ now r ≡ slowestOf (recordsOf (now (front .entry)) ++ recordsOf (now (back .entry))) ⌝ }
 {

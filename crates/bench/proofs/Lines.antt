@@ -11,6 +11,7 @@ use Rattle.record.specs.Words.{_is_}
 use Rattle.judge.specs.Answers.{numberOf, placeOf, trainRefusals, trainAnswer, trainSheet}
 use Rattle.judge.specs.declared.Answer.{Answer}
 use Rattle.judge.specs.declared.Answer.the-variants.{NotWhole}
+use Rattle.judge.proofs.Demands.{thirty-two}
 use Rattle.bench.specs.Texts.{glyphOf, decimal, field, hex, sheetText}
 use Rattle.bench.specs.Lines.{orderPart, vehiclePart, answerOf, sheetIn, lineBy, lineOf}
 use Rattle.bench.proofs.Texts.{text-behind, field-length, sheet-length}
@@ -71,7 +72,7 @@ module _ (number place : ℕ) (sheet : List ℕ) where
 -- no line is longer
 pub line-bound : (input : List ℕ) → length (lineOf input) ≤ 107
 unfolding lineOf sheetIn
-line-bound input = line-length (numberOf (answerOf input)) (placeOf (answerOf input)) (sheetIn input) refl
+line-bound input = line-length (numberOf (answerOf input)) (placeOf (answerOf input)) (sheetIn input) (thirty-two _ _)
 
 pub line-in-front : (l input : List ℕ) {line m : List ℕ} {r : ℕ} → 107 ≤ length l → line ≡ lineOf input → r ≡ length line → m ≡ sets l 0 line
     → (r ≡ length (lineOf input)) × (m ≡ lineOf input ++ drop (length (lineOf input)) l)

@@ -4,10 +4,10 @@ use mathlib.Core.List.{List, [], _∷_, _++_}
 use lib.ListN.{take, drop}
 use Rattle.record.specs.Words.{_is_}
 use Rattle.record.specs.Vehicles.{vehicles}
-use Rattle.judge.specs.Answers.{numberOf, placeOf, trainAnswer}
-use Rattle.judge.specs.Facts.{factsOf}
-use Rattle.judge.specs.Orders.{orderOf}
-use Rattle.judge.specs.Sheets.{sheetOf}
+use Rattle.order.specs.Orders.{orderOf}
+use Rattle.facts.specs.Facts.{factsOf}
+use Rattle.sheets.specs.Sheets.{sheetLength}
+use Rattle.judge.specs.Answers.{numberOf, placeOf, trainAnswer, sheetFor}
 use Rattle.judge.specs.declared.Answer.{Answer}
 use Rattle.bench.specs.Texts.{field, sheetText}
 
@@ -18,12 +18,12 @@ orderPart input = take 24 input
 abbrev pub vehiclePart : List ℕ → List ℕ
 vehiclePart input = drop 24 (take 4848 input)
 
--- the answer for a sheet with room for its 32 bytes; up to 24 bytes hold no vehicle: refusal 1
+-- the answer for a sheet with room for its bytes; up to 24 bytes hold no vehicle: refusal 1
 unfoldable pub answerOf : List ℕ → Answer
-answerOf input = trainAnswer (vehiclePart input) (orderPart input) 32
+answerOf input = trainAnswer (vehiclePart input) (orderPart input) sheetLength
 
 unfoldable pub sheetIn : List ℕ → List ℕ
-sheetIn input = sheetOf (factsOf (vehicles (vehiclePart input))) (orderOf (orderPart input))
+sheetIn input = sheetFor (factsOf (vehicles (vehiclePart input))) (orderOf (orderPart input))
 
 -- fields parted by one space and closed by a line feed: number, place, the sheet
 unfoldable pub lineBy : ℕ → ℕ → List ℕ → List ℕ

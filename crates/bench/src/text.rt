@@ -3,6 +3,7 @@ ghost use mathlib.Core.Path.{_≡_};
 ghost use Prim.Native.Nat.{_+_, _*_, _<_, _≤_};
 ghost use lib.ListN.{length};
 ghost use lib.Seq.{sets};
+ghost use Rattle.sheets.specs.Sheets.{sheetLength};
 ghost use Rattle.bench.specs.Texts.{glyphOf, digits, field, hex, sheetText};
 
 const GLYPHS: [u8; 16] = [
@@ -56,7 +57,7 @@ fn put_digits(width: usize, n: usize, line: &mut [u8], at: usize) -> usize
 }
 
 // A number and the space that parts it from the next field.
-pub fn put_field(n: usize, line: &mut [u8], at: usize) -> usize
+pub(crate) fn put_field(n: usize, line: &mut [u8], at: usize) -> usize
     requires { ⌜ at + 21 ≤ length (now line) ⌝ }
     ensures { λ r. ⌜ r ≡ at + length (field n) ⌝ }
     ensures { λ _. ⌜ now (line .exit) ≡ sets (now (line .entry)) at (field n) ⌝ }
@@ -83,8 +84,8 @@ fn put_hex(bytes: &[u8], line: &mut [u8], at: usize) -> usize
 }
 
 // The sheet in hex, or "-" if refused.
-pub fn put_sheet(done: bool, sheet: &[u8], line: &mut [u8], at: usize) -> usize
-    requires { ⌜ (length (now sheet) ≡ 32) × (at + 64 ≤ length (now line)) ⌝ }
+pub(crate) fn put_sheet(done: bool, sheet: &[u8], line: &mut [u8], at: usize) -> usize
+    requires { ⌜ (length (now sheet) ≡ sheetLength) × (at + 2 * sheetLength ≤ length (now line)) ⌝ }
     ensures { λ r. ⌜ r ≡ at + length (sheetText done (now (sheet .entry))) ⌝ }
     ensures { λ _. ⌜ now (line .exit) ≡ sets (now (line .entry)) at (sheetText done (now (sheet .entry))) ⌝ }
 {

@@ -1,8 +1,8 @@
 -- Laws of accounts that come as bytes and go as bytes. Assumes nothing.
 use Prim.Native.Nat.{ℕ, _≤_}
-use mathlib.Core.Path.{_≡_, refl, sym, ap, ap₂, subst, _∙_}
+use mathlib.Core.Path.{_≡_, refl, sym, ap, ap₂, _∙_}
 use mathlib.Core.Bool.{Bool, true, false, not, _&&_, _||_, cond}
-use mathlib.Core.List.{List, [], _∷_, _++_, map}
+use mathlib.Core.List.{List, _++_, map}
 use native.Mathlib.Omega.{arith}
 use lib.ListN.{length, take, replicate, length-append}
 use lib.Seq.{length-take-le}
@@ -11,28 +11,28 @@ use Rattle.record.specs.Records.{isWhole}
 use Rattle.record.specs.Vehicles.{vehicles, isWorking}
 use Rattle.record.specs.declared.vehicle.Vehicle.{Vehicle}
 use Rattle.account.specs.Accounts.{accountOf, empty}
-use Rattle.account.specs.Ceilings.{within, Within}
-use Rattle.account.specs.Joining.{fill, joining}
+use Rattle.account.specs.Ceilings.{within}
+use Rattle.account.specs.Joining.{joining}
 use Rattle.account.specs.Answers as account
-use Rattle.account.specs.Portions.{portionRefusals, accounted, joinRefusals, joined}
+use Rattle.account.specs.Portions.{accounted, joinRefusals, joined}
 use Rattle.account.specs.Groupings.{Grouping, portion, pair, uncut, joinedBytes, BetweenRecords, NoneRefused}
 use Rattle.account.specs.declared.Account.{Account}
 use Rattle.account.specs.declared.Accounted.{Accounted}
 use Rattle.account.specs.declared.Answer as account-answer
 use Rattle.account.specs.declared.Answer.the-variants as account-case
-use Rattle.account.proofs.Bytes.{done-sound, sound-done}
-use Rattle.account.proofs.Ceils.{test-within}
-use Rattle.account.proofs.Demands.{within-ceilings, any-grouping-not-refused}
-use Rattle.judge.specs.Orders.{orderOf}
-use Rattle.judge.specs.Facts.{factsBeside}
-use Rattle.judge.specs.Sheets.{sheetOf}
-use Rattle.judge.specs.Answers.{accountRefusals, trainAnswer, trainSheet, accountAnswer, accountSheet, written, GoodEngines}
+use Rattle.account.proofs.Demands as account-demands
+use Rattle.account.proofs.Demands.{portion-done-exactly, portion-of, within-ceilings, any-grouping-not-refused}
+use Rattle.order.specs.Orders.{orderOf}
+use Rattle.facts.specs.Engines.{GoodEngines}
+use Rattle.facts.specs.Facts.{factsBeside}
+use Rattle.judge.specs.Answers.{accountRefusals, trainAnswer, trainSheet, accountAnswer, accountSheet, sheetFor, written}
 use Rattle.judge.specs.declared.Answer.{Answer}
 use Rattle.judge.specs.declared.Answer.the-variants.{AboveCeiling}
 use Rattle.judge.proofs.Demands.{sheet-from-account}
-use Rattle.travel.specs.AccountRecords.{accountIn, isAccount, offered, recordOf}
-use Rattle.travel.proofs.Demands.{read-back, within-exactly}
-use Rattle.exports.specs.Lent.{oneNumber, sheetNumber, lentNumber, lentAccount, carried}
+use Rattle.travel.specs.AccountRecords.{size, accountIn, isAccount, offered, recordOf}
+use Rattle.travel.proofs.Demands.{read-back-within, within-exactly}
+use Rattle.exports.specs.Lent.{sheetNumber, accountNumber, lentNumber, lentAccount, carried, AllAnswered}
+use borrow.Author.Tests.{le-ltb}
 use Rattle.exports.proofs.Lent.{lent-refused}
 
 -- ---- 7 in joining
@@ -49,9 +49,9 @@ module _ (left right : List ℕ) where
 
   pub join-refused-seven : (room : List ℕ) → (isAccount left && isAccount right) ≡ false → (lentNumber both (length room) ≡ 7) × (lentAccount both room ≡ room)
   join-refused-seven room e =
-      let n : oneNumber (account.numberOf (both .answer)) (account.placeOf (both .answer)) ≡ 7 =
-      ap (λ (a : account-answer.Answer). oneNumber (account.numberOf a) (account.placeOf a)) (answer-seven e) in
-      let l = lent-refused both room (oneNumber (account.numberOf (both .answer)) (account.placeOf (both .answer))) refl (λ z. omega (arith, n, z)) in
+      let n : accountNumber (both .answer) ≡ 7 =
+      ap accountNumber (answer-seven e) in
+      let l = lent-refused both room (accountNumber (both .answer)) refl (λ z. omega (arith, n, z)) in
       (sym (l .0) ∙ n, sym (l .1))
 
   answer-other : (isAccount left && isAccount right) ≡ true → both .answer ≡ cond (not (within (joining (offered left) (offered right)))) account-case.TooMany account-case.Done
@@ -61,13 +61,13 @@ module _ (left right : List ℕ) where
   pub join-other-number : (room : ℕ) → (isAccount left && isAccount right) ≡ true → lentNumber both room ≡ 7 → ⊥
   unfolding lentNumber
   join-other-number room e seven =
-      go (within (joining (offered left) (offered right))) (64 above room)
-      (sym (ap (λ (a : account-answer.Answer). cond (account.numberOf a is 0 && 64 above room) 5 (oneNumber (account.numberOf a) (account.placeOf a))) (answer-other e)) ∙ seven)
+      go (within (joining (offered left) (offered right))) (size above room)
+      (sym (ap (λ (a : account-answer.Answer). cond (account.numberOf a is 0 && size above room) 5 (accountNumber a)) (answer-other e)) ∙ seven)
     where
       number : Bool → account-answer.Answer
       number w = cond (not w) account-case.TooMany account-case.Done
 
-      go : (w short : Bool) → cond (account.numberOf (number w) is 0 && short) 5 (oneNumber (account.numberOf (number w)) (account.placeOf (number w))) ≡ 7 → ⊥
+      go : (w short : Bool) → cond (account.numberOf (number w) is 0 && short) 5 (accountNumber (number w)) ≡ 7 → ⊥
       go true true e = omega arith
       go true false e = omega arith
       go false short e = omega arith
@@ -88,7 +88,7 @@ module _ (engines hauled order : List ℕ) (whole : (length engines is 0 || not 
   sheet-answer room = rw (whole, within-exactly hauled ∙ bad)
 
   pub sheet-refused-seven : (sheet : List ℕ) → (sheetNumber (accountAnswer engines (offered hauled) order (length sheet)) ≡ 7) × (accountSheet engines (offered hauled) order sheet ≡ sheet)
-  sheet-refused-seven sheet = (ap sheetNumber (sheet-answer (length sheet)), ap (λ (a : Answer). written a (sheetOf (factsBeside (vehicles engines) (offered hauled)) (orderOf order)) sheet) (sheet-answer (length sheet)))
+  sheet-refused-seven sheet = (ap sheetNumber (sheet-answer (length sheet)), ap (λ (a : Answer). written a (sheetFor (factsBeside (vehicles engines) (offered hauled)) (orderOf order)) sheet) (sheet-answer (length sheet)))
 
 -- ---- what the C functions write reads back
 five-of : (xs : List Vehicle) → length (accountOf xs .first) ≡ 5
@@ -97,10 +97,10 @@ five-of xs = length-take-le 5 (map (λ (v : Vehicle). v .setting) xs ++ replicat
 
 pub portion-back : (bs : List ℕ) → accounted bs .answer ≡ account-case.Done → offered (recordOf (accounted bs .account)) ≡ accounted bs .account
 portion-back bs e =
-    let s = done-sound bs e in
-    let a : accounted bs .account ≡ accountOf (vehicles bs) = ap (λ (r : Accounted). r .account) (sound-done bs s) in
+    let s = portion-done-exactly bs .0 e in
+    let a : accounted bs .account ≡ accountOf (vehicles bs) = ap (λ (r : Accounted). r .account) (portion-done-exactly bs .1 s) in
     ap (λ (x : Account). offered (recordOf x)) a
-    ∙ read-back (accountOf (vehicles bs)) (within-ceilings (vehicles bs) (s .hauled)) (five-of (vehicles bs))
+    ∙ read-back-within (accountOf (vehicles bs)) (five-of (vehicles bs)) (within-ceilings (vehicles bs) (portion-of bs s))
     ∙ sym a
 
 five-offered : (bs : List ℕ) → length (offered bs .first) ≡ 5
@@ -116,7 +116,7 @@ join-back left right e =
     let j = joining (offered left) (offered right) in
     let a : both left right .account ≡ j = ap (λ (x : account-answer.Answer). cond (account.numberOf x is 0) j empty) e in
     ap (λ (x : Account). offered (recordOf x)) a
-    ∙ read-back j (test-within j (joined-within left right e)) (five-joined (offered left) (offered right) (five-offered right))
+    ∙ read-back-within j (five-joined (offered left) (offered right) (five-offered right)) (account-demands.within-exactly j .0 (joined-within left right e))
     ∙ sym a
 
 -- ---- and so does what is joined call after call
@@ -144,3 +144,14 @@ module _ (g : Grouping ℕ) (cut : BetweenRecords g) (none : NoneRefused g) wher
         ap (λ (a : Account). accountAnswer engines a order (length sheet)) b ∙ t .0,
         ap (λ (a : Account). accountSheet engines a order sheet) b ∙ t .1,
       )
+
+-- ---- from the records alone
+lent-zero : (r : Accounted) (room : ℕ) → r .answer ≡ account-case.Done → size ≤ room → lentNumber r room ≡ 0
+unfolding lentNumber
+lent-zero r room e h = ap (λ (a : account-answer.Answer). cond (account.numberOf a is 0 && size above room) 5 (accountNumber a)) e ∙ rw (le-ltb room size h)
+
+pub grouping-answered : (g : Grouping ℕ) → NoneRefused g → (room : ℕ) → size ≤ room → AllAnswered g room
+grouping-answered (portion bs) h room fits = lent-zero (accounted bs) room h fits
+grouping-answered (pair left right) h room fits =
+    let e : both (carried left) (carried right) ≡ joinedBytes (pair left right) = ap₂ joined (grouping-back left (h .0)) (grouping-back right (h .1)) in
+    (grouping-answered left (h .0) room fits, grouping-answered right (h .1) room fits, lent-zero (both (carried left) (carried right)) room (ap (λ (r : Accounted). r .answer) e ∙ h .2) fits)

@@ -1,6 +1,6 @@
 -- What a program that links the static library may rely on: the theorems, over the definitions of specs/. Assumes nothing.
 use Prim.Native.Nat.{ℕ, _/_, _%_, _≤_, _<_}
-use mathlib.Core.Path.{_≡_, refl, sym}
+use mathlib.Core.Path.{_≡_, refl, sym, ap, _∙_}
 use mathlib.Core.Logic.{_⊎_}
 use mathlib.Core.Bool.{true, false, not, _&&_, _||_}
 use mathlib.Core.List.{List, [], _++_}
@@ -10,16 +10,19 @@ use Rattle.record.specs.Words.{_is_, all}
 use Rattle.record.specs.Records.{isWhole}
 use Rattle.record.specs.Vehicles.{vehicles, isWorking}
 use Rattle.account.specs.Answers as account
+use Rattle.account.specs.Accounts.{accountOf}
 use Rattle.account.specs.Portions.{accounted, joined}
-use Rattle.account.specs.Groupings.{Grouping, uncut, BetweenRecords, NoneRefused}
+use Rattle.account.proofs.Demands.{any-grouping-done}
+use Rattle.account.specs.Groupings.{Grouping, uncut, BetweenRecords, GoodPortion, NoneRefused}
 use Rattle.account.specs.declared.Accounted.{Accounted}
 use Rattle.account.specs.declared.Answer.the-variants.{Done}
-use Rattle.judge.specs.Answers.{numberOf, placeOf, trainAnswer, trainSheet, accountAnswer, accountSheet, GoodEngines}
+use Rattle.facts.specs.Engines.{GoodEngines}
+use Rattle.judge.specs.Answers.{numberOf, placeOf, trainAnswer, trainSheet, accountAnswer, accountSheet}
 use Rattle.judge.specs.declared.Answer.{Answer}
-use Rattle.travel.specs.AccountRecords.{isAccount, offered, recordOf}
-use Rattle.exports.specs.Lent.{oneNumber, sheetNumber, lentNumber, lentAccount, lentVehicle, carried}
+use Rattle.travel.specs.AccountRecords.{size, isAccount, offered, recordOf}
+use Rattle.exports.specs.Lent.{sheetNumber, accountNumber, lentNumber, lentAccount, lentVehicle, carried, AllAnswered}
 use Rattle.exports.proofs.Lent.{number-small, done-number, lent-not-done, lent-refused, lent-short, lent-done, lent-or-none}
-use Rattle.exports.proofs.Carried.{join-refused-seven, join-other-number, sheet-refused-seven, portion-back, join-back, grouping-account, grouping-sheet}
+use Rattle.exports.proofs.Carried.{join-refused-seven, join-other-number, sheet-refused-seven, portion-back, join-back, grouping-back, grouping-answered, grouping-account, grouping-sheet}
 
 -- ---- the answer as one number: its two parts are had from it
 pub number-back : (answer : Answer) → sheetNumber answer % 256 ≡ numberOf answer
@@ -31,18 +34,18 @@ place-back answer = omega (arith, number-small answer)
 -- ---- an account that is lent: its own refusals first, then 5, and a refused call writes nothing
 module _ (r : Accounted) (room : List ℕ) where
   pub own-refusals-first : (account.numberOf (r .answer) ≡ 0 → ⊥)
-      → (lentNumber r (length room) ≡ oneNumber (account.numberOf (r .answer)) (account.placeOf (r .answer))) × (lentAccount r room ≡ room)
+      → (lentNumber r (length room) ≡ accountNumber (r .answer)) × (lentAccount r room ≡ room)
   own-refusals-first h =
       let l = lent-refused r room _ refl (lent-not-done r h) in
       (sym (l .0), sym (l .1))
 
-  pub then-five : account.numberOf (r .answer) ≡ 0 → length room < 64 → (lentNumber r (length room) ≡ 5) × (lentAccount r room ≡ room)
+  pub then-five : account.numberOf (r .answer) ≡ 0 → length room < size → (lentNumber r (length room) ≡ 5) × (lentAccount r room ≡ room)
   then-five e h =
       let l = lent-short r room _ refl (done-number (r .answer) e) h in
       (sym (l .0), sym (l .1))
 
-  pub done-writes-64 : account.numberOf (r .answer) ≡ 0 → 64 ≤ length room → (lentNumber r (length room) ≡ 0) × (lentAccount r room ≡ recordOf (r .account) ++ drop 64 room)
-  done-writes-64 e h =
+  pub done-writes : account.numberOf (r .answer) ≡ 0 → size ≤ length room → (lentNumber r (length room) ≡ 0) × (lentAccount r room ≡ recordOf (r .account) ++ drop size room)
+  done-writes e h =
       let l = lent-done r room _ refl (done-number (r .answer) e) h in
       (sym (l .0), sym (l .1))
 
@@ -76,6 +79,20 @@ module _ (g : Grouping ℕ) (cut : BetweenRecords g) (none : NoneRefused g) wher
       → (accountAnswer engines (offered (carried g)) order (length sheet) ≡ trainAnswer (engines ++ uncut g) order (length sheet))
       × (accountSheet engines (offered (carried g)) order sheet ≡ trainSheet (engines ++ uncut g) order sheet)
   sheet-from-bytes = grouping-sheet g cut none
+
+-- the same from the records alone: each good, none a working engine, at most 200, cut anywhere; then every call answers 0
+module _ (g : Grouping ℕ) (cut : BetweenRecords g) (good : GoodPortion (uncut g)) where
+  pub carried-from-portions : (room : ℕ) → size ≤ room → AllAnswered g room × (offered (carried g) ≡ accountOf (vehicles (uncut g)))
+  carried-from-portions room fits =
+      let d = any-grouping-done g cut good in
+      (grouping-answered g (d .0) room fits, grouping-back g (d .0) ∙ ap (λ (r : Accounted). r .account) (d .1))
+
+  pub sheet-from-carried : (engines order sheet : List ℕ) → GoodEngines engines → all isWorking (vehicles engines) ≡ true
+      → (sheetNumber (accountAnswer engines (offered (carried g)) order (length sheet)) ≡ sheetNumber (trainAnswer (engines ++ uncut g) order (length sheet)))
+      × (accountSheet engines (offered (carried g)) order sheet ≡ trainSheet (engines ++ uncut g) order sheet)
+  sheet-from-carried engines order sheet e w =
+      let t = grouping-sheet g cut (any-grouping-done g cut good .0) engines order sheet e w in
+      (ap sheetNumber (t .0), t .1)
 
 -- ---- the vehicle that holds the speed
 pub twenty-four-or-none : (front back : List ℕ) (room : ℕ) → (length (lentVehicle front back room) ≡ 24) ⊎ (lentVehicle front back room ≡ [])

@@ -12,7 +12,7 @@ use Rattle.record.specs.Words.{_is_, _above_, _atMost_, all, leading, Every, Ca
 use Rattle.record.specs.Records.{records, recordCount, recordsOf, isWhole}
 use Rattle.record.specs.Vehicles.{good, vehicles, isWorking}
 use Rattle.record.proofs.Records.{length-records}
-use Rattle.account.specs.Figures.{some}
+use Rattle.record.specs.Figures.{some}
 use Rattle.account.specs.Ceilings.{within}
 use Rattle.account.specs.Answers as account
 use Rattle.account.specs.Portions.{portionRefusals, accounted, joinRefusals, joined}
@@ -21,12 +21,12 @@ use Rattle.account.specs.declared.Account.{Account}
 use Rattle.account.specs.declared.Accounted.{Accounted}
 use Rattle.account.specs.declared.Answer as account-answer
 use Rattle.account.specs.declared.Answer.the-variants as account-case
-use Rattle.account.proofs.Lists.{leading-le}
+use Rattle.record.proofs.Figures.{leading-le}
 use Rattle.judge.specs.Answers.{numberOf, placeOf, trainRefusals, trainAnswer, accountRefusals, accountAnswer, orderRefusals, trainShape, engineShape}
 use Rattle.judge.specs.declared.Answer.{Answer}
 use Rattle.judge.specs.declared.Answer.the-variants.{Done, NotWhole, TooMany, BadField, BadOrder, ShortSheet, AboveCeiling, NotWorking, WorkingBehind, ManyEngines, NothingHauled}
-use Rattle.travel.specs.AccountRecords.{recordOf}
-use Rattle.exports.specs.Lent.{oneNumber, lentNumber, lentAccount, lentVehicle}
+use Rattle.travel.specs.AccountRecords.{size, recordOf}
+use Rattle.exports.specs.Lent.{accountNumber, lentNumber, lentAccount, lentVehicle}
 
 pub number-small : (answer : Answer) → numberOf answer ≤ 14
 number-small Done = omega arith
@@ -107,35 +107,35 @@ pub join-place : (left right : Account) → account.placeOf (joined left right .
 unfolding joinRefusals
 join-place left right = first-place account.placeOf account-case.Done (joinRefusals left right) (omega arith) (omega arith)
 
-pub done-number : (answer : account-answer.Answer) → account.numberOf answer ≡ 0 → oneNumber (account.numberOf answer) (account.placeOf answer) ≡ 0
+pub done-number : (answer : account-answer.Answer) → account.numberOf answer ≡ 0 → accountNumber answer ≡ 0
 done-number answer e = omega (arith, done-place answer e)
 
-pub lent-not-done : (r : Accounted) → (account.numberOf (r .answer) ≡ 0 → ⊥) → oneNumber (account.numberOf (r .answer)) (account.placeOf (r .answer)) ≡ 0 → ⊥
+pub lent-not-done : (r : Accounted) → (account.numberOf (r .answer) ≡ 0 → ⊥) → accountNumber (r .answer) ≡ 0 → ⊥
 lent-not-done r h e = h (omega (arith, e))
 
-module _ (r : Accounted) (room : List ℕ) (n : ℕ) (answered : n ≡ oneNumber (account.numberOf (r .answer)) (account.placeOf (r .answer))) where
+module _ (r : Accounted) (room : List ℕ) (n : ℕ) (answered : n ≡ accountNumber (r .answer)) where
   pub lent-refused : (n ≡ 0 → ⊥) → (n ≡ lentNumber r (length room)) × (room ≡ lentAccount r room)
   unfolding lentNumber lentAccount
   lent-refused h =
       let z : account.numberOf (r .answer) ≡ 0 → ⊥ = λ e. h (omega (arith, answered, e, done-place (r .answer) e)) in
       let t = ne-eqb (account.numberOf (r .answer)) 0 z in
-      (rw t answered, rw (t, ne-eqb (oneNumber (account.numberOf (r .answer)) (account.placeOf (r .answer))) 0 (λ e. h (answered ∙ e))))
+      (rw t answered, rw (t, ne-eqb (accountNumber (r .answer)) 0 (λ e. h (answered ∙ e))))
 
   done : n ≡ 0 → account.numberOf (r .answer) ≡ 0
   done z = omega (arith, answered)
 
-  pub lent-short : n ≡ 0 → length room < 64 → (5 ≡ lentNumber r (length room)) × (room ≡ lentAccount r room)
+  pub lent-short : n ≡ 0 → length room < size → (5 ≡ lentNumber r (length room)) × (room ≡ lentAccount r room)
   unfolding lentNumber lentAccount
   lent-short z h =
       let t = eq-eqb (account.numberOf (r .answer)) 0 (done z) in
-      (rw (t, lt-ltb (length room) 64 h), rw (t, lt-ltb (length room) 64 h))
+      (rw (t, lt-ltb (length room) size h), rw (t, lt-ltb (length room) size h))
 
-  pub lent-done : n ≡ 0 → 64 ≤ length room → (0 ≡ lentNumber r (length room)) × (recordOf (r .account) ++ drop 64 room ≡ lentAccount r room)
+  pub lent-done : n ≡ 0 → size ≤ length room → (0 ≡ lentNumber r (length room)) × (recordOf (r .account) ++ drop size room ≡ lentAccount r room)
   unfolding lentNumber lentAccount
   lent-done z h =
       let t = eq-eqb (account.numberOf (r .answer)) 0 (done z) in
-      let o : oneNumber (account.numberOf (r .answer)) (account.placeOf (r .answer)) ≡ 0 = sym answered ∙ z in
-      (rw (t, le-ltb (length room) 64 h) (sym o), rw (t, le-ltb (length room) 64 h, eq-eqb _ 0 o))
+      let o : accountNumber (r .answer) ≡ 0 = sym answered ∙ z in
+      (rw (t, le-ltb (length room) size h) (sym o), rw (t, le-ltb (length room) size h, eq-eqb _ 0 o))
 
 -- ---- the vehicle that is lent
 -- all of one list over the front of another

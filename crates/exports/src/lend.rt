@@ -1,15 +1,15 @@
-// An account, put into the room that a caller lends for its 64 bytes.
+// An answer as one number; an account, put into the room that a caller lends for it.
 ghost use mathlib.Core.Path.{_≡_};
-ghost use Prim.Native.Nat.{_≤_};
+ghost use Prim.Native.Nat.{_<_, _≤_};
 ghost use lib.ListN.{length};
 ghost use Rattle.account.specs.Answers.{numberOf, placeOf};
-ghost use Rattle.exports.specs.Lent.{oneNumber, lentNumber, lentAccount};
+ghost use Rattle.exports.specs.Lent.{oneNumber, accountNumber, lentNumber, lentAccount};
 use account::Accounted;
 use account::Answer;
 use travel::SIZE;
 use travel::record_of;
 
-fn number_of(answer: Answer) -> u64
+fn number_of(answer: Answer) -> usize
     ensures { λ r. ⌜ r ≡ numberOf answer ⌝ }
 {
     match answer {
@@ -35,21 +35,30 @@ fn place_of(answer: Answer) -> usize
     }
 }
 
-fn one_number(answer: Answer) -> u64
-    requires { ⌜ placeOf answer ≤ 200 ⌝ }
-    ensures { λ r. ⌜ r ≡ oneNumber (numberOf answer) (placeOf answer) ⌝ }
+// Number and place as one number; a place is that of one of 200 records.
+pub(crate) fn one_number(number: usize, place: usize) -> u64
+    requires { ⌜ (number < 256) × (place ≤ 200) ⌝ }
+    ensures { λ r. ⌜ r ≡ oneNumber number place ⌝ }
 {
-    number_of(answer) + 256 * place_of(answer) as u64
+    (number + 256 * place) as u64
+}
+
+// An answer of the accounts' library.
+fn account_number(answer: Answer) -> u64
+    requires { ⌜ placeOf answer ≤ 200 ⌝ }
+    ensures { λ r. ⌜ r ≡ accountNumber answer ⌝ }
+{
+    one_number(number_of(answer), place_of(answer))
 }
 
 // Writes the account where it is done and has room, and answers.
-pub fn lend(given: Accounted, room: &mut [u8]) -> u64
+pub(crate) fn lend(given: Accounted, room: &mut [u8]) -> u64
     requires { ⌜ placeOf (given .answer) ≤ 200 ⌝ }
     ensures { λ r. ⌜ r ≡ lentNumber given (length (now (room .entry))) ⌝ }
     ensures { λ _. ⌜ now (room .exit) ≡ lentAccount given (now (room .entry)) ⌝ }
 {
     let answer = given.answer;
-    let number = one_number(answer);
+    let number = account_number(answer);
     if number != 0 {
         return number;
     }

@@ -15,17 +15,18 @@ use judge::Answer;
 use judge::sheet_of_account;
 use judge::sheet_of_train;
 use lend::lend;
+use lend::one_number;
 use record::vehicle::SIZE;
 use travel::offered_by;
 
 mod lend;
 
-// An answer of the judging library as one number; a place is that of one of 200 records.
-fn one_number(answer: Answer) -> u64
+// An answer of the judging library as one number.
+fn sheet_number(answer: Answer) -> u64
     requires { ⌜ placeOf answer ≤ 200 ⌝ }
     ensures { λ r. ⌜ r ≡ sheetNumber answer ⌝ }
 {
-    (number_of(answer) + 256 * place_of(answer)) as u64
+    one_number(number_of(answer), place_of(answer))
 }
 
 // The sheet of a whole train.
@@ -34,7 +35,7 @@ pub extern "C" fn prskavon_sheet_of_train(vehicles: &[u8], order: &[u8], sheet: 
     ensures { λ r. ⌜ r ≡ sheetNumber (trainAnswer (now (vehicles .entry)) (now (order .entry)) (length (now (sheet .entry)))) ⌝ }
     ensures { λ _. ⌜ now (sheet .exit) ≡ trainSheet (now (vehicles .entry)) (now (order .entry)) (now (sheet .entry)) ⌝ }
 {
-    one_number(sheet_of_train(vehicles, order, sheet))
+    sheet_number(sheet_of_train(vehicles, order, sheet))
 }
 
 // The account of a portion of hauled vehicles.
@@ -66,7 +67,7 @@ pub extern "C" fn prskavon_sheet_of_account(
     ensures { λ r. ⌜ r ≡ sheetNumber (accountAnswer (now (engines .entry)) (offered (now (hauled .entry))) (now (order .entry)) (length (now (sheet .entry)))) ⌝ }
     ensures { λ _. ⌜ now (sheet .exit) ≡ accountSheet (now (engines .entry)) (offered (now (hauled .entry))) (now (order .entry)) (now (sheet .entry)) ⌝ }
 {
-    one_number(sheet_of_account(engines, offered_by(hauled), order, sheet))
+    sheet_number(sheet_of_account(engines, offered_by(hauled), order, sheet))
 }
 
 // Copies the vehicle that holds the speed, and answers how many bytes it copied.

@@ -1,14 +1,24 @@
--- Cases A to H of document 01 in a single table, with one proof about the definitions. Assumes nothing.
+-- Case A of document 01 from its own bytes, through the judging library's definitions. Assumes nothing.
 use mathlib.Core.Path.{_≡_, refl}
-use Rattle.margin.specs.Margin.{marginOf}
-use Rattle.judge.specs.Categories.{lineSpeed}
-use Rattle.judge.specs.Facts.{factsOf}
-use Rattle.judge.specs.Brakes.{fourfold, deductionOf, marginFor, brakedOf}
-use Rattle.judge.specs.Rules.{termsOf, brokenBy}
-use Rattle.judge.specs.Grants.{speedOf, offerOf, grantedOf}
-use Rattle.judge.specs.Sheets.{figuresOf}
-use Rattle.judge.specs.Cases.{shown, expected}
+use lib.ListN.{replicate}
+use Rattle.record.specs.Words.{all}
+use Rattle.record.specs.Numbers.{littleEndian}
+use Rattle.record.specs.Records.{records}
+use Rattle.record.specs.Vehicles.{good, vehicle}
+use Rattle.margin.specs.Margin.{fourfold, marginOf}
+use Rattle.order.specs.Orders.{goodOrder, orderOf}
+use Rattle.facts.specs.Facts.{factsOf}
+use Rattle.rules.specs.Categories.{lineSpeed, speedOf}
+use Rattle.rules.specs.Brakes.{marginFor, brakedOf}
+use Rattle.rules.specs.Rules.{termsOf}
+use Rattle.rules.specs.Books.{brokenBy}
+use Rattle.rules.specs.CrossBorder.{crossBorder}
+use Rattle.rules.specs.Grants.{offerOf, grantedOf, decisionOf}
+use Rattle.sheets.specs.Sheets.{sheetLength, figuresOf}
+use Rattle.sheets.specs.Cases.{trainA, orderA, sheetA}
+use Rattle.judge.specs.Answers.{numberOf, placeOf, trainRefusals, trainAnswer, trainSheet, sheetFor}
 
-pub cases : shown ≡ expected
-unfolding figuresOf grantedOf factsOf brokenBy marginFor brakedOf offerOf termsOf marginOf fourfold lineSpeed deductionOf speedOf
-cases = refl
+-- number 0, place 0, and the 32 bytes that document 01 prints
+pub case-a : (numberOf (trainAnswer trainA orderA sheetLength) ≡ 0) × (placeOf (trainAnswer trainA orderA sheetLength) ≡ 0) × (trainSheet trainA orderA (replicate sheetLength 0) ≡ sheetA)
+unfolding trainRefusals sheetFor all good goodOrder figuresOf decisionOf grantedOf offerOf factsOf orderOf vehicle records littleEndian crossBorder brokenBy marginFor brakedOf termsOf marginOf fourfold lineSpeed speedOf
+case-a = (refl, refl, refl)

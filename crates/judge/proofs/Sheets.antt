@@ -6,41 +6,29 @@ use mathlib.Core.Bool.{Bool, true, false, not, _&&_, _||_, cond, false≢true}
 use mathlib.Core.List.{List, [], _∷_, _++_}
 use borrow.Author.Tests.{eq-eqb, eqb-true, eqb-false, ltb-false, lt-ltb, not-false}
 use lib.Dec.{eqb, ltb, leb·suc-suc}
-use lib.ListN.{length, drop, length-map}
+use lib.ListN.{length, take, drop}
+use lib.Seq.{take-all}
 use Rattle.record.specs.Words.{all, leading, Every, Case, firstOf}
 use Rattle.record.specs.Records.{recordCount, recordsOf, isWhole}
-use Rattle.record.specs.Vehicles.{good, vehicle, vehicles, isWorking}
-use Rattle.record.proofs.Records.{length-records}
-use Rattle.record.proofs.Vehicles.{both}
-use Rattle.account.specs.Figures.{some}
+use Rattle.record.specs.Vehicles.{good, vehicles, isWorking}
+use Rattle.record.proofs.Lists.{neither}
+use Rattle.record.proofs.Vehicles.{length-vehicles}
+use Rattle.record.specs.Figures.{some}
 use Rattle.account.specs.Ceilings.{within, Within}
 use Rattle.account.specs.declared.Account.{Account}
-use Rattle.account.proofs.Ceils.{test-within}
-use Rattle.judge.specs.Orders.{goodOrder, orderOf}
-use Rattle.judge.specs.Facts.{factsBeside}
-use Rattle.judge.specs.Sheets.{sheetOf}
-use Rattle.judge.specs.Answers.{isDone, orElse, orderRefusals, engineRefusals, engineShape, accountRefusals, accountAnswer, accountSheet, shape, GoodEngines, written}
+use Rattle.account.proofs.Demands.{within-exactly}
+use Rattle.order.specs.Orders.{goodOrder, orderOf, orderRead}
+use Rattle.order.specs.declared.Order.{Order}
+use Rattle.order.proofs.Demands.{read-good}
+use Rattle.facts.specs.Engines.{GoodEngines}
+use Rattle.facts.specs.Facts.{factsBeside}
+use Rattle.facts.specs.declared.Facts.{Facts}
+use Rattle.sheets.specs.Sheets.{sheetLength}
+use Rattle.sheets.proofs.Demands.{thirty-two}
+use Rattle.judge.specs.Answers.{isDone, orderTests, orderRefusals, engineRefusals, engineShape, accountRefusals, accountAnswer, accountSheet, shape, sheetFor, written}
 use Rattle.judge.specs.declared.Answer.{Answer}
 use Rattle.judge.specs.declared.Answer.the-variants.{Done, NotWhole, TooMany, BadField, BadOrder, ShortSheet, AboveCeiling, NotWorking, WorkingBehind, ManyEngines, NothingHauled}
-use Rattle.judge.proofs.Answers.{or-else}
-
--- ---- three groups of refusals
-module _ (a b s : Answer) where
-  pub early-stays : isDone (orElse a b) ≡ false → orElse a (orElse b s) ≡ orElse a b
-  early-stays e = go (isDone a) (isDone b) refl e
-    where
-      go : (x y : Bool) → isDone b ≡ y → isDone (cond x b a) ≡ false → cond x (cond y s b) a ≡ cond x b a
-      go true true q e = absurd (false≢true (sym e ∙ q))
-      go true false q e = refl
-      go false y q e = refl
-
-  pub late-comes : isDone (orElse a b) ≡ true → (orElse a (orElse b s) ≡ s) × (isDone a ≡ true) × (isDone b ≡ true)
-  late-comes e = go (isDone a) (isDone b) refl refl e
-    where
-      go : (x y : Bool) → isDone a ≡ x → isDone b ≡ y → isDone (cond x b a) ≡ true → (cond x (cond y s b) a ≡ s) × (isDone a ≡ true) × (isDone b ≡ true)
-      go true true p q e = (refl, p, q)
-      go true false p q e = absurd (false≢true (sym q ∙ e))
-      go false y p q e = absurd (false≢true (sym p ∙ e))
+use Rattle.judge.proofs.Answers.{orElse, or-else}
 
 pub done-is : (x : Answer) → isDone x ≡ true → x ≡ Done
 done-is Done e = refl
@@ -55,28 +43,43 @@ done-is WorkingBehind e = absurd (false≢true e)
 done-is ManyEngines e = absurd (false≢true e)
 done-is NothingHauled e = absurd (false≢true e)
 
--- what is answered, and what then stands in the lent sheet
+-- ---- three groups of refusals: what is answered, and what then stands in the lent sheet
 module _ (total a b s : Answer) (groups : total ≡ orElse a (orElse b s)) (bytes sheet : List ℕ) where
-  unwritten : (x : Answer) → x ≡ total → isDone x ≡ false → (x ≡ total) × (sheet ≡ written total bytes sheet)
-  unwritten x e n = (e, ap (λ (d : Bool). cond d (bytes ++ drop 32 sheet) sheet) (sym n) ∙ ap (λ (y : Answer). written y bytes sheet) e)
+  abbrev pub Gives : Answer → Type 0
+  Gives x = (x ≡ total) × (sheet ≡ written total bytes sheet)
 
-  pub refused-early : (x : Answer) → x ≡ orElse a b → isDone x ≡ false → (x ≡ total) × (sheet ≡ written total bytes sheet)
-  refused-early x e n = unwritten x (e ∙ sym (early-stays a b s (ap isDone (sym e) ∙ n)) ∙ sym groups) n
+  unwritten : (x : Answer) → x ≡ total → isDone x ≡ false → Gives x
+  unwritten x e n = (e, ap (λ (d : Bool). cond d (bytes ++ drop sheetLength sheet) sheet) (sym n) ∙ ap (λ (y : Answer). written y bytes sheet) e)
 
-  module _ (x : Answer) (early : x ≡ orElse a b) (done : isDone x ≡ true) where
-    late-is : s ≡ total
-    late-is = sym (late-comes a b s (ap isDone (sym early) ∙ done) .0) ∙ sym groups
+  pub refused-first : (x : Answer) → x ≡ a → isDone x ≡ false → Gives x
+  refused-first x e n = unwritten x (e ∙ sym (groups ∙ ap (λ (d : Bool). cond d (orElse b s) a) (ap isDone (sym e) ∙ n))) n
 
-    pub refused-late : (y : Answer) → y ≡ s → isDone y ≡ false → (y ≡ total) × (sheet ≡ written total bytes sheet)
-    refused-late y e n = unwritten y (e ∙ late-is) n
+  module _ (x : Answer) (first : x ≡ a) (p : isDone x ≡ true) where
+    behind-first : orElse b s ≡ total
+    behind-first = sym (groups ∙ ap (λ (d : Bool). cond d (orElse b s) a) (ap isDone (sym first) ∙ p))
 
-    pub groups-done : (isDone a ≡ true) × (isDone b ≡ true)
-    groups-done = let t = late-comes a b s (ap isDone (sym early) ∙ done) in (t .1, t .2)
+    pub refused-second : (y : Answer) → y ≡ b → isDone y ≡ false → Gives y
+    refused-second y e n = unwritten y (e ∙ sym (ap (λ (d : Bool). cond d s b) (ap isDone (sym e) ∙ n)) ∙ behind-first) n
 
-    pub all-done : (y : Answer) → y ≡ s → isDone y ≡ true → (Done ≡ total) × (bytes ++ drop 32 sheet ≡ written total bytes sheet)
-    all-done y e d =
-        let t = sym (done-is y d) ∙ e ∙ late-is in
-        (t, ap (λ (z : Answer). written z bytes sheet) t)
+    module _ (y : Answer) (second : y ≡ b) (q : isDone y ≡ true) where
+      third-is : s ≡ total
+      third-is = sym (ap (λ (d : Bool). cond d s b) (ap isDone (sym second) ∙ q)) ∙ behind-first
+
+      pub refused-third : (z : Answer) → z ≡ s → isDone z ≡ false → Gives z
+      refused-third z e n = unwritten z (e ∙ third-is) n
+
+      pub all-done : (z : Answer) → z ≡ s → isDone z ≡ true → (Done ≡ total) × (bytes ++ drop sheetLength sheet ≡ written total bytes sheet)
+      all-done z e d =
+          let t = sym (done-is z d) ∙ e ∙ third-is in
+          (t, ap (λ (w : Answer). written w bytes sheet) t)
+
+-- ---- the sheet's bytes, laid over the lent ones
+pub sheet-long : (f : Facts) (o : Order) → length (sheetFor f o) ≡ sheetLength
+unfolding sheetFor
+sheet-long = thirty-two
+
+pub laid : (line bytes sheet : List ℕ) → line ≡ bytes → length bytes ≡ sheetLength → take (length line) line ++ drop (length line) sheet ≡ bytes ++ drop sheetLength sheet
+laid line bytes sheet e l = ap₂ _++_ (take-all (length line) line (omega arith) ∙ e) (ap (λ (n : ℕ). drop n sheet) (ap length e ∙ l))
 
 -- where a group is done, no test of it holds
 pub none-of : (cs : List (Case Answer)) → Every (λ c. isDone (c .gives) ≡ false) cs → isDone (firstOf Done cs) ≡ true → Every (λ c. c .applies ≡ false) cs
@@ -88,18 +91,22 @@ none-of (c ∷ cs) n e = go (c .applies) refl e (none-of cs (n .1))
     go true q e rest = absurd (false≢true (sym (n .0) ∙ e))
     go false q e rest = (q, rest e)
 
-neither : (p q : Bool) → (p || q) ≡ false → (p ≡ false) × (q ≡ false)
-neither true q e = absurd (false≢true (sym e))
-neither false q e = (refl, e)
-
 -- ---- the order and the room
-pub order-ready : (order : List ℕ) (room : ℕ) → isDone (firstOf Done (orderRefusals order room)) ≡ true → (length order ≡ 24) × (32 ≤ room)
-unfolding goodOrder
-order-ready order room e =
-    let t = none-of (orderRefusals order room) (refl, (refl, tt)) e in (
-      eqb-true (length order) 24 (both (eqb (length order) 24) _ (not-false (goodOrder order) (t .0)) .0),
-      ltb-false room 32 (t .1 .0),
-    )
+pub order-tests : (good : Bool) (order : List ℕ) (room : ℕ) → good ≡ goodOrder order → firstOf Done (orderTests good room) ≡ firstOf Done (orderRefusals order room)
+order-tests good order room e = ap (λ (b : Bool). firstOf Done (orderTests b room)) e
+
+module _ (order : List ℕ) (room : ℕ) (done : isDone (firstOf Done (orderRefusals order room)) ≡ true) where
+  passed-order : Every (λ c. c .applies ≡ false) (orderRefusals order room)
+  passed-order = none-of (orderRefusals order room) (refl, (refl, tt)) done
+
+  pub order-good : goodOrder order ≡ true
+  order-good = not-false (goodOrder order) (passed-order .0)
+
+  pub order-read : orderRead order ≡ orderOf order
+  order-read = read-good order order-good
+
+  pub order-room : sheetLength ≤ room
+  order-room = ltb-false room sheetLength (passed-order .1 .0)
 
 -- a list that is not empty, of whole records
 pub whole-some : (bs : List ℕ) → (eqb (length bs) 0 || not (isWhole bs)) ≡ false → (length bs % 24 ≡ 0) × (24 ≤ length bs)
@@ -121,9 +128,6 @@ lacking p (x ∷ xs) = go (p x) (lacking p xs)
     go true e = leb·suc-suc (suc (leading p xs)) (length xs) ∙ e
     go false e = lt-ltb 0 (suc (length xs)) (omega arith)
 
-pub length-vehicles : (bs : List ℕ) → length (vehicles bs) ≡ recordCount bs
-length-vehicles bs = length-map (recordsOf bs) vehicle ∙ length-records (recordCount bs) bs
-
 -- ---- engines lent apart, with an account
 module _ (bs : List ℕ) (hauled : Account) (order : List ℕ) (room : ℕ) where
   pub account-groups :
@@ -137,8 +141,8 @@ module _ (bs : List ℕ) (hauled : Account) (order : List ℕ) (room : ℕ) wher
   pub engine-shape : firstOf Done (shape (ltb (leading isWorking (vehicles bs)) (recordCount bs)) false (recordCount bs) (hauled .count)) ≡ firstOf Done (engineShape (vehicles bs) hauled)
   engine-shape =
       ap₂ (λ (b : Bool) (n : ℕ). firstOf Done (shape b false n (hauled .count)))
-      (ap (ltb (leading isWorking (vehicles bs))) (sym (length-vehicles bs)) ∙ lacking isWorking (vehicles bs))
-      (sym (length-vehicles bs))
+      (ap (ltb (leading isWorking (vehicles bs))) (sym (length-vehicles (recordCount bs) bs)) ∙ lacking isWorking (vehicles bs))
+      (sym (length-vehicles (recordCount bs) bs))
 
   module _ (a : isDone (firstOf Done (engineRefusals bs hauled)) ≡ true) (s : isDone (firstOf Done (engineShape (vehicles bs) hauled)) ≡ true) where
     pub engines-ready : GoodEngines bs
@@ -149,47 +153,65 @@ module _ (bs : List ℕ) (hauled : Account) (order : List ℕ) (room : ℕ) wher
         record {
           whole = eq-eqb (length bs % 24) 0 (w .0);
           some = w .1;
-          few = omega (arith, w .0, length-vehicles bs, ltb-false 2 (length (vehicles bs)) (u .1 .0));
+          few = omega (arith, w .0, length-vehicles (recordCount bs) bs, ltb-false 2 (length (vehicles bs)) (u .1 .0));
           each = not-false (all good (recordsOf bs)) (t .1 .1 .1 .0);
         }
 
     pub hauled-within : Within hauled
     hauled-within =
         let t = none-of (engineRefusals bs hauled) (refl, (refl, (refl, (refl, tt)))) a in
-        test-within hauled (not-false (within hauled) (t .1 .0))
+        within-exactly hauled .0 (not-false (within hauled) (t .1 .0))
 
--- the same as the code comes to it: x is the early answer, y the late one
-module _ (bs : List ℕ) (hauled : Account) (order sheet : List ℕ) (x a b : Answer)
-    (early : x ≡ orElse a b) (first : a ≡ firstOf Done (engineRefusals bs hauled)) (second : b ≡ firstOf Done (orderRefusals order (length sheet))) where
-  both-early : x ≡ orElse (firstOf Done (engineRefusals bs hauled)) (firstOf Done (orderRefusals order (length sheet)))
-  both-early = early ∙ ap₂ orElse first second
+-- the same as the code comes to it: x, y and z answer for the three groups
+module _ (bs : List ℕ) (hauled : Account) (order sheet : List ℕ) where
+  abbrev recordAnswer : Answer
+  recordAnswer = firstOf Done (engineRefusals bs hauled)
 
-  pub account-early : isDone x ≡ false → (x ≡ accountAnswer bs hauled order (length sheet)) × (sheet ≡ accountSheet bs hauled order sheet)
-  account-early n =
-      refused-early (accountAnswer bs hauled order (length sheet)) (firstOf Done (engineRefusals bs hauled)) (firstOf Done (orderRefusals order (length sheet))) (firstOf Done (engineShape (vehicles bs) hauled))
-      (account-groups bs hauled order (length sheet)) (sheetOf (factsBeside (vehicles bs) hauled) (orderOf order)) sheet x both-early n
+  abbrev orderAnswer : Answer
+  orderAnswer = firstOf Done (orderRefusals order (length sheet))
 
-  module _ (done : isDone x ≡ true) (w : ℕ) (y : Answer) (working : w ≡ leading isWorking (vehicles bs))
-      (late : y ≡ firstOf Done (shape (ltb w (recordCount bs)) false (recordCount bs) (hauled .count))) where
-    late-shape : y ≡ firstOf Done (engineShape (vehicles bs) hauled)
-    late-shape =
-        late ∙ ap (λ (n : ℕ). firstOf Done (shape (ltb n (recordCount bs)) false (recordCount bs) (hauled .count))) working
-        ∙ engine-shape bs hauled order (length sheet)
+  abbrev shapeAnswer : Answer
+  shapeAnswer = firstOf Done (engineShape (vehicles bs) hauled)
 
-    pub account-late : isDone y ≡ false → (y ≡ accountAnswer bs hauled order (length sheet)) × (sheet ≡ accountSheet bs hauled order sheet)
-    account-late n =
-        refused-late (accountAnswer bs hauled order (length sheet)) (firstOf Done (engineRefusals bs hauled)) (firstOf Done (orderRefusals order (length sheet))) (firstOf Done (engineShape (vehicles bs) hauled))
-        (account-groups bs hauled order (length sheet)) (sheetOf (factsBeside (vehicles bs) hauled) (orderOf order)) sheet x both-early done y late-shape n
+  abbrev total : Answer
+  total = accountAnswer bs hauled order (length sheet)
 
-    pub account-done : isDone y ≡ true → (Done ≡ accountAnswer bs hauled order (length sheet)) × (sheetOf (factsBeside (vehicles bs) hauled) (orderOf order) ++ drop 32 sheet ≡ accountSheet bs hauled order sheet)
-    account-done d =
-        all-done (accountAnswer bs hauled order (length sheet)) (firstOf Done (engineRefusals bs hauled)) (firstOf Done (orderRefusals order (length sheet))) (firstOf Done (engineShape (vehicles bs) hauled))
-        (account-groups bs hauled order (length sheet)) (sheetOf (factsBeside (vehicles bs) hauled) (orderOf order)) sheet x both-early done y late-shape d
+  abbrev bytes : List ℕ
+  bytes = sheetFor (factsBeside (vehicles bs) hauled) (orderOf order)
 
-    pub account-ready : isDone y ≡ true → GoodEngines bs × Within hauled × (length order ≡ 24) × (32 ≤ length sheet)
-    account-ready d =
-        let g = groups-done (accountAnswer bs hauled order (length sheet)) (firstOf Done (engineRefusals bs hauled)) (firstOf Done (orderRefusals order (length sheet))) (firstOf Done (engineShape (vehicles bs) hauled))
-        (account-groups bs hauled order (length sheet)) (sheetOf (factsBeside (vehicles bs) hauled) (orderOf order)) sheet x both-early done in
-        let l = ap isDone (sym late-shape) ∙ d in
-        let o = order-ready order (length sheet) (g .1) in
-        (engines-ready bs hauled order (length sheet) (g .0) l, hauled-within bs hauled order (length sheet) (g .0) l, o .0, o .1)
+  abbrev pub AccountGives : Answer → Type 0
+  AccountGives = Gives total recordAnswer orderAnswer shapeAnswer (account-groups bs hauled order (length sheet)) bytes sheet
+
+  module _ (x : Answer) (first : x ≡ recordAnswer) where
+    pub account-first : isDone x ≡ false → AccountGives x
+    account-first n = refused-first total recordAnswer orderAnswer shapeAnswer (account-groups bs hauled order (length sheet)) bytes sheet x first n
+
+    module _ (p : isDone x ≡ true) (y : Answer) (second : y ≡ orderAnswer) where
+      pub account-second : isDone y ≡ false → AccountGives y
+      account-second n = refused-second total recordAnswer orderAnswer shapeAnswer (account-groups bs hauled order (length sheet)) bytes sheet x first p y second n
+
+      module _ (q : isDone y ≡ true) where
+        pub account-room : sheetLength ≤ length sheet
+        account-room = order-room order (length sheet) (ap isDone (sym second) ∙ q)
+
+        pub account-order : orderRead order ≡ orderOf order
+        account-order = order-read order (length sheet) (ap isDone (sym second) ∙ q)
+
+        module _ (w : ℕ) (z : Answer) (working : w ≡ leading isWorking (vehicles bs)) (late : z ≡ firstOf Done (shape (ltb w (recordCount bs)) false (recordCount bs) (hauled .count))) where
+          late-shape : z ≡ shapeAnswer
+          late-shape =
+              late ∙ ap (λ (n : ℕ). firstOf Done (shape (ltb n (recordCount bs)) false (recordCount bs) (hauled .count))) working
+              ∙ engine-shape bs hauled order (length sheet)
+
+          pub account-third : isDone z ≡ false → AccountGives z
+          account-third n = refused-third total recordAnswer orderAnswer shapeAnswer (account-groups bs hauled order (length sheet)) bytes sheet x first p y second q z late-shape n
+
+          module _ (d : isDone z ≡ true) where
+            pub account-done : (Done ≡ total) × (bytes ++ drop sheetLength sheet ≡ accountSheet bs hauled order sheet)
+            account-done = all-done total recordAnswer orderAnswer shapeAnswer (account-groups bs hauled order (length sheet)) bytes sheet x first p y second q z late-shape d
+
+            pub account-ready : GoodEngines bs × Within hauled
+            account-ready =
+                let early = ap isDone (sym first) ∙ p in
+                let shaped = ap isDone (sym late-shape) ∙ d in
+                (engines-ready bs hauled order (length sheet) early shaped, hauled-within bs hauled order (length sheet) early shaped)

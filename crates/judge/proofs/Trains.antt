@@ -2,8 +2,8 @@
 use Prim.Native.Nat.{ℕ, zero, suc, _*_, _%_, _≤_}
 use native.Mathlib.Omega.{arith}
 use mathlib.Core.Path.{_≡_, refl, sym, ap, ap₂, _∙_, subst}
-use mathlib.Core.Bool.{Bool, true, false, not, _||_, cond, false≢true}
-use mathlib.Core.List.{List, [], _∷_, _++_}
+use mathlib.Core.Bool.{Bool, true, false, not, cond}
+use mathlib.Core.List.{List, _++_}
 use borrow.Author.Tests.{eq-eqb, eqb-true, eqb-false, ltb-false, lt-ltb, not-false}
 use lib.Dec.{eqb, ltb, eqb·suc-zero}
 use lib.ListN.{length, take, drop, length-drop, take-append-drop}
@@ -13,60 +13,39 @@ use Rattle.record.specs.Records.{recordCount, recordsOf}
 use Rattle.record.specs.Vehicles.{good, vehicles, isWorking}
 use Rattle.record.specs.declared.vehicle.Vehicle.{Vehicle}
 use Rattle.record.proofs.Records.{records-append}
-use Rattle.record.proofs.Vehicles.{both, all-append, vehicles-append}
-use Rattle.account.specs.Figures.{some, firstIs}
+use Rattle.record.proofs.Vehicles.{both, all-append, length-vehicles, vehicles-append}
+use Rattle.record.specs.Figures.{some, firstIs}
 use Rattle.account.specs.Accounts.{accountOf}
 use Rattle.account.specs.Ceilings.{Within}
 use Rattle.account.specs.Answers.{numberOf, doneWith, refusedBy}
 use Rattle.account.specs.Portions.{accounted}
 use Rattle.account.specs.declared.Accounted.{Accounted}
 use Rattle.account.specs.declared.Answer.the-variants.{WorkingEngine, BadField}
-use Rattle.account.proofs.Lists.{leading-le}
-use Rattle.account.proofs.Ceils.{portion-ceilings}
-use Rattle.account.proofs.Portions.{answer-6, answer-0}
-use Rattle.account.proofs.Bytes.{hauled-each}
-use Rattle.account.proofs.Rules.{first-leading}
-use Rattle.judge.specs.Orders.{orderOf}
-use Rattle.judge.specs.Facts.{workingOf, hauledOf, factsOf, factsBeside, Working}
-use Rattle.judge.specs.Sheets.{sheetOf}
-use Rattle.judge.specs.Answers.{isDone, orElse, orderRefusals, recordRefusals, trainShape, trainRefusals, trainAnswer, trainSheet, shape, GoodEngines}
-use Rattle.judge.specs.declared.fact.Facts.{Facts}
+use Rattle.record.proofs.Lists.{every-map, leading-each}
+use Rattle.record.proofs.Figures.{leading-le, first-leading, none-first}
+use Rattle.account.proofs.Demands.{within-ceilings, answer-6, answer-0, hauled-each}
+use Rattle.order.specs.Orders.{orderOf, orderRead}
+use Rattle.facts.specs.Engines.{GoodEngines}
+use Rattle.facts.specs.Facts.{workingOf, hauledOf, factsOf, factsBeside, Working}
+use Rattle.facts.proofs.Demands.{facts-agree}
+use Rattle.sheets.specs.Sheets.{sheetLength}
+use Rattle.judge.specs.Answers.{isDone, orderRefusals, recordRefusals, trainShape, trainRefusals, trainAnswer, trainSheet, shape, sheetFor, GoodRecords, Parts}
 use Rattle.judge.specs.declared.Answer.{Answer}
 use Rattle.judge.specs.declared.Answer.the-variants.{Done}
-use Rattle.judge.proofs.Facts.{facts-same}
-use Rattle.judge.proofs.Answers.{or-else}
-use Rattle.judge.proofs.Sheets.{refused-early, refused-late, groups-done, all-done, none-of, order-ready, whole-some, length-vehicles}
-
--- ---- a list parted where its leading run ends
-module _ {A : Type 0} (p : A → Bool) where
-  leading-each : (xs : List A) → Every (λ x. p x ≡ true) (take (leading p xs) xs)
-  leading-each [] = tt
-  leading-each (x ∷ xs) = go (p x) refl (leading-each xs)
-    where
-      go : (b : Bool) → p x ≡ b → Every (λ x. p x ≡ true) (take (leading p xs) xs) → Every (λ x. p x ≡ true) (take (cond b (suc (leading p xs)) 0) (x ∷ xs))
-      go true e rest = (e, rest)
-      go false e rest = tt
-
-  pub none-first : (xs : List A) → some p xs ≡ false → firstIs p xs ≡ false
-  none-first [] e = refl
-  none-first (x ∷ xs) e = go (p x) e
-    where
-      go : (b : Bool) → (b || some p xs) ≡ false → b ≡ false
-      go true e = absurd (false≢true (sym e))
-      go false e = refl
+use Rattle.judge.proofs.Answers.{orElse, or-else}
+use Rattle.judge.proofs.Sheets.{Gives, refused-first, refused-second, refused-third, all-done, none-of, order-read, order-room, whole-some}
 
 zero-first : (n : ℕ) → eqb n 0 ≡ not (ltb 0 n)
 zero-first zero = refl
 zero-first (suc n) = eqb·suc-zero n ∙ ap not (sym (lt-ltb 0 (suc n) (omega arith)))
 
 pub working-each : (xs : List Vehicle) → Every (λ v. isWorking v ≡ true) xs → Every Working xs
-working-each [] e = tt
-working-each (x ∷ xs) e = (eqb-true (x .kind) 2 (e .0), working-each xs (e .1))
+working-each = every-map (λ v. isWorking v ≡ true) Working (λ v w. eqb-true (v .kind) 2 w)
 
 -- ---- the two parts of a train's bytes, n being how many working engines stand in front
 module _ (bs : List ℕ) (n : ℕ) (count : n ≡ leading isWorking (vehicles bs)) (whole : length bs % 24 ≡ 0) where
   pub parted-le : 24 * n ≤ length bs
-  parted-le = omega (arith, leading-le isWorking (vehicles bs), length-vehicles bs)
+  parted-le = omega (arith, leading-le isWorking (vehicles bs), length-vehicles (recordCount bs) bs)
 
   front-long : length (take (24 * n) bs) ≡ 24 * n
   front-long = length-take-le (24 * n) bs parted-le
@@ -81,7 +60,7 @@ module _ (bs : List ℕ) (n : ℕ) (count : n ≡ leading isWorking (vehicles bs
   parted = ap vehicles (sym (take-append-drop (24 * n) bs)) ∙ vehicles-append (take (24 * n) bs) (drop (24 * n) bs) front-whole
 
   front-count : length (vehicles (take (24 * n) bs)) ≡ n
-  front-count = omega (arith, length-vehicles (take (24 * n) bs), front-long)
+  front-count = omega (arith, length-vehicles (recordCount (take (24 * n) bs)) (take (24 * n) bs), front-long)
 
   pub working-is : workingOf (vehicles bs) ≡ vehicles (take (24 * n) bs)
   working-is =
@@ -162,79 +141,89 @@ module _ (bs : List ℕ) (n : ℕ) (count : n ≡ leading isWorking (vehicles bs
         pub rear-within : Within (part .account)
         rear-within =
             subst Within (sym (ap (λ (r : Accounted). r .account) (rear-done none-behind)))
-            (portion-ceilings (vehicles (drop (24 * n) bs))
-            (record { each = hauled-each (recordsOf (drop (24 * n) bs)) (parts-fine .1) none-behind; few = omega (arith, length-vehicles (drop (24 * n) bs), rear-few) }))
+            (within-ceilings (vehicles (drop (24 * n) bs))
+            (record { each = hauled-each (recordsOf (drop (24 * n) bs)) (parts-fine .1) none-behind; few = omega (arith, length-vehicles (recordCount (drop (24 * n) bs)) (drop (24 * n) bs), rear-few) }))
 
         pub facts-are : factsBeside (vehicles (take (24 * n) bs)) (part .account) ≡ factsOf (vehicles bs)
         facts-are =
             ap (λ (r : Accounted). factsBeside (vehicles (take (24 * n) bs)) (r .account)) (rear-done none-behind)
-            ∙ sym (facts-same (vehicles (take (24 * n) bs)) (vehicles (drop (24 * n) bs))
+            ∙ sym (facts-agree (vehicles (take (24 * n) bs)) (vehicles (drop (24 * n) bs))
             (subst (λ (xs : List Vehicle). Every Working xs) working-is (working-each (workingOf (vehicles bs)) (leading-each isWorking (vehicles bs))))
             (none-first isWorking (vehicles (drop (24 * n) bs)) none-behind))
             ∙ ap factsOf (sym parted)
 
--- ---- the three groups of refusals, as the code comes to them: x is the early answer, y the late one
+-- ---- a train of good records as the code parts it: n working engines, part the account of the rest, flag whether that was refused
+module _ (bs : List ℕ) (good-records : GoodRecords bs) (n : ℕ) (count : n ≡ leading isWorking (vehicles bs)) (part : Accounted) (portion : part ≡ accounted (drop (24 * n) bs))
+    (flag : Bool) (refused : flag ≡ not (numberOf (part .answer) is 0)) (y : Answer) (late : y ≡ firstOf Done (shape (eqb n 0) flag n (part .account .count))) where
+  late-flag : y ≡ firstOf Done (shape (eqb n 0) (not (numberOf (part .answer) is 0)) n (part .account .count))
+  late-flag = late ∙ ap (λ (b : Bool). firstOf Done (shape (eqb n 0) b n (part .account .count))) refused
+
+  pub parted-answer : y ≡ firstOf Done (trainShape (vehicles bs))
+  parted-answer = late-flag ∙ train-shape bs n count (good-records .whole) (good-records .few) (good-records .each) part portion
+
+  pub parted-ready : isDone y ≡ true → Parts bs n (part .account)
+  parted-ready passing =
+      let done = ap isDone (sym late-flag) ∙ passing in
+      record {
+        within = parted-le bs n count (good-records .whole);
+        engines = front-good bs n count (good-records .whole) (good-records .few) (good-records .each) part portion done;
+        ceilings = rear-within bs n count (good-records .whole) (good-records .few) (good-records .each) part portion done;
+        facts = facts-are bs n count (good-records .whole) (good-records .few) (good-records .each) part portion done;
+      }
+
+-- ---- the three groups of refusals, as the code comes to them: x, y and z answer for them
 module _ (bs order sheet : List ℕ) where
-  pub train-groups :
-      trainAnswer bs order (length sheet)
-      ≡ orElse (firstOf Done (recordRefusals bs)) (orElse (firstOf Done (orderRefusals order (length sheet))) (firstOf Done (trainShape (vehicles bs))))
+  abbrev recordAnswer : Answer
+  recordAnswer = firstOf Done (recordRefusals bs)
+
+  abbrev orderAnswer : Answer
+  orderAnswer = firstOf Done (orderRefusals order (length sheet))
+
+  abbrev shapeAnswer : Answer
+  shapeAnswer = firstOf Done (trainShape (vehicles bs))
+
+  abbrev total : Answer
+  total = trainAnswer bs order (length sheet)
+
+  abbrev bytes : List ℕ
+  bytes = sheetFor (factsOf (vehicles bs)) (orderOf order)
+
+  pub train-groups : total ≡ orElse recordAnswer (orElse orderAnswer shapeAnswer)
   unfolding trainRefusals
   train-groups =
       or-else (recordRefusals bs) (orderRefusals order (length sheet) ++ trainShape (vehicles bs)) (refl, (refl, (refl, tt)))
-      ∙ ap (orElse (firstOf Done (recordRefusals bs))) (or-else (orderRefusals order (length sheet)) (trainShape (vehicles bs)) (refl, (refl, tt)))
+      ∙ ap (orElse recordAnswer) (or-else (orderRefusals order (length sheet)) (trainShape (vehicles bs)) (refl, (refl, tt)))
 
-  module _ (x a b : Answer) (early : x ≡ orElse a b) (first : a ≡ firstOf Done (recordRefusals bs)) (second : b ≡ firstOf Done (orderRefusals order (length sheet))) where
-    both-early : x ≡ orElse (firstOf Done (recordRefusals bs)) (firstOf Done (orderRefusals order (length sheet)))
-    both-early = early ∙ ap₂ orElse first second
+  pub records-good : isDone recordAnswer ≡ true → GoodRecords bs
+  records-good done =
+      let t = none-of (recordRefusals bs) (refl, (refl, (refl, tt))) done in
+      record { whole = whole-some bs (t .0) .0; few = ltb-false 200 (recordCount bs) (t .1 .0); each = not-false (all good (recordsOf bs)) (t .1 .1 .0) }
 
-    pub train-early : isDone x ≡ false → (x ≡ trainAnswer bs order (length sheet)) × (sheet ≡ trainSheet bs order sheet)
-    train-early n =
-        refused-early (trainAnswer bs order (length sheet)) (firstOf Done (recordRefusals bs)) (firstOf Done (orderRefusals order (length sheet))) (firstOf Done (trainShape (vehicles bs)))
-        train-groups (sheetOf (factsOf (vehicles bs)) (orderOf order)) sheet x both-early n
+  abbrev pub TrainGives : Answer → Type 0
+  TrainGives = Gives total recordAnswer orderAnswer shapeAnswer train-groups bytes sheet
 
-    module _ (done : isDone x ≡ true) where
-      groups : (isDone (firstOf Done (recordRefusals bs)) ≡ true) × (isDone (firstOf Done (orderRefusals order (length sheet))) ≡ true)
-      groups =
-          groups-done (trainAnswer bs order (length sheet)) (firstOf Done (recordRefusals bs)) (firstOf Done (orderRefusals order (length sheet))) (firstOf Done (trainShape (vehicles bs)))
-          train-groups (sheetOf (factsOf (vehicles bs)) (orderOf order)) sheet x both-early done
+  module _ (x : Answer) (first : x ≡ recordAnswer) where
+    pub train-first : isDone x ≡ false → TrainGives x
+    train-first n = refused-first total recordAnswer orderAnswer shapeAnswer train-groups bytes sheet x first n
 
-      records-passed : Every (λ c. c .applies ≡ false) (recordRefusals bs)
-      records-passed = none-of (recordRefusals bs) (refl, (refl, (refl, tt))) (groups .0)
+    module _ (p : isDone x ≡ true) where
+      pub train-good : GoodRecords bs
+      train-good = records-good (ap isDone (sym first) ∙ p)
 
-      pub train-whole : length bs % 24 ≡ 0
-      train-whole = whole-some bs (records-passed .0) .0
+      module _ (y : Answer) (second : y ≡ orderAnswer) where
+        pub train-second : isDone y ≡ false → TrainGives y
+        train-second n = refused-second total recordAnswer orderAnswer shapeAnswer train-groups bytes sheet x first p y second n
 
-      train-few : recordCount bs ≤ 200
-      train-few = ltb-false 200 (recordCount bs) (records-passed .1 .0)
+        module _ (q : isDone y ≡ true) where
+          pub train-room : sheetLength ≤ length sheet
+          train-room = order-room order (length sheet) (ap isDone (sym second) ∙ q)
 
-      train-fine : all good (recordsOf bs) ≡ true
-      train-fine = not-false (all good (recordsOf bs)) (records-passed .1 .1 .0)
+          pub train-order : orderRead order ≡ orderOf order
+          train-order = order-read order (length sheet) (ap isDone (sym second) ∙ q)
 
-      module _ (n : ℕ) (count : n ≡ leading isWorking (vehicles bs)) (part : Accounted) (portion : part ≡ accounted (drop (24 * n) bs))
-          (y : Answer) (flag : Bool) (refused : flag ≡ not (numberOf (part .answer) is 0)) (late : y ≡ firstOf Done (shape (eqb n 0) flag n (part .account .count))) where
-        late-flag : y ≡ firstOf Done (shape (eqb n 0) (not (numberOf (part .answer) is 0)) n (part .account .count))
-        late-flag = late ∙ ap (λ (b : Bool). firstOf Done (shape (eqb n 0) b n (part .account .count))) refused
+          module _ (z : Answer) (late : z ≡ shapeAnswer) where
+            pub train-third : isDone z ≡ false → TrainGives z
+            train-third n = refused-third total recordAnswer orderAnswer shapeAnswer train-groups bytes sheet x first p y second q z late n
 
-        late-shape : y ≡ firstOf Done (trainShape (vehicles bs))
-        late-shape = late-flag ∙ train-shape bs n count train-whole train-few train-fine part portion
-
-        pub train-late : isDone y ≡ false → (y ≡ trainAnswer bs order (length sheet)) × (sheet ≡ trainSheet bs order sheet)
-        train-late k =
-            refused-late (trainAnswer bs order (length sheet)) (firstOf Done (recordRefusals bs)) (firstOf Done (orderRefusals order (length sheet))) (firstOf Done (trainShape (vehicles bs)))
-            train-groups (sheetOf (factsOf (vehicles bs)) (orderOf order)) sheet x both-early done y late-shape k
-
-        module _ (passing : isDone y ≡ true) where
-          shape-done : isDone (firstOf Done (shape (eqb n 0) (not (numberOf (part .answer) is 0)) n (part .account .count))) ≡ true
-          shape-done = ap isDone (sym late-flag) ∙ passing
-
-          pub train-ready : GoodEngines (take (24 * n) bs) × Within (part .account) × (length order ≡ 24) × (32 ≤ length sheet)
-          train-ready =
-              let o = order-ready order (length sheet) (groups .1) in
-              (front-good bs n count train-whole train-few train-fine part portion shape-done, rear-within bs n count train-whole train-few train-fine part portion shape-done, o .0, o .1)
-
-          pub train-done : (Done ≡ trainAnswer bs order (length sheet))
-              × (sheetOf (factsBeside (vehicles (take (24 * n) bs)) (part .account)) (orderOf order) ++ drop 32 sheet ≡ trainSheet bs order sheet)
-          train-done =
-              let t = all-done (trainAnswer bs order (length sheet)) (firstOf Done (recordRefusals bs)) (firstOf Done (orderRefusals order (length sheet))) (firstOf Done (trainShape (vehicles bs)))
-              train-groups (sheetOf (factsOf (vehicles bs)) (orderOf order)) sheet x both-early done y late-shape passing in
-              (t .0, ap (λ (f : Facts). sheetOf f (orderOf order) ++ drop 32 sheet) (facts-are bs n count train-whole train-few train-fine part portion shape-done) ∙ t .1)
+            pub train-done : isDone z ≡ true → (Done ≡ total) × (bytes ++ drop sheetLength sheet ≡ trainSheet bs order sheet)
+            train-done d = all-done total recordAnswer orderAnswer shapeAnswer train-groups bytes sheet x first p y second q z late d

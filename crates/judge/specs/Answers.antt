@@ -1,19 +1,23 @@
 -- Document 01, "Answers that yield no sheet": the number and the place of each answer, and the refusals in their two orders.
-use Prim.Native.Nat.{ℕ, _+_, _≤_}
+use Prim.Native.Nat.{ℕ, _+_, _*_, _%_, _≤_}
 use mathlib.Core.Path.{_≡_}
 use mathlib.Core.Bool.{Bool, true, not, _||_, cond}
 use mathlib.Core.List.{List, [], _∷_, _++_}
-use lib.ListN.{length, drop}
+use lib.ListN.{length, take, drop}
 use Rattle.record.specs.Words.{_is_, _above_, all, leading, Case, firstOf}
 use Rattle.record.specs.Records.{recordCount, recordsOf, isWhole}
 use Rattle.record.specs.Vehicles.{good, vehicles, isWorking}
 use Rattle.record.specs.declared.vehicle.Vehicle.{Vehicle}
-use Rattle.account.specs.Figures.{some, firstIs}
-use Rattle.account.specs.Ceilings.{within}
+use Rattle.record.specs.Figures.{some, firstIs}
+use Rattle.account.specs.Ceilings.{within, Within}
 use Rattle.account.specs.declared.Account.{Account}
-use Rattle.judge.specs.Orders.{goodOrder, orderOf}
-use Rattle.judge.specs.Facts.{workingOf, hauledOf, factsOf, factsBeside}
-use Rattle.judge.specs.Sheets.{sheetOf}
+use Rattle.order.specs.Orders.{goodOrder, orderOf}
+use Rattle.order.specs.declared.Order.{Order}
+use Rattle.facts.specs.Engines.{GoodEngines}
+use Rattle.facts.specs.Facts.{workingOf, hauledOf, factsOf, factsBeside}
+use Rattle.facts.specs.declared.Facts.{Facts}
+use Rattle.rules.specs.CrossBorder.{crossBorder}
+use Rattle.sheets.specs.Sheets.{sheetLength, sheetOf}
 use Rattle.judge.specs.declared.Answer.{Answer}
 use Rattle.judge.specs.declared.Answer.the-variants.{Done, NotWhole, TooMany, BadField, BadOrder, ShortSheet, AboveCeiling, NotWorking, WorkingBehind, ManyEngines, NothingHauled}
 
@@ -50,10 +54,6 @@ refusal answer applies = record { gives = answer; applies = applies }
 abbrev pub isDone : Answer → Bool
 isDone answer = numberOf answer is 0
 
--- the second answer where the first is done
-abbrev pub orElse : Answer → Answer → Answer
-orElse first second = cond (isDone first) second first
-
 -- of a list of records: 1, 2, 3
 abbrev pub notWhole : List ℕ → Case Answer
 notWhole bs = refusal NotWhole (length bs is 0 || not (isWhole bs))
@@ -62,8 +62,11 @@ abbrev pub badField : List ℕ → Case Answer
 badField bs = refusal (BadField (leading good (recordsOf bs))) (not (all good (recordsOf bs)))
 
 -- of the order and the lent sheet: 4, 5
+abbrev pub orderTests : Bool → ℕ → List (Case Answer)
+orderTests isGood room = refusal BadOrder (not isGood) ∷ refusal ShortSheet (sheetLength above room) ∷ []
+
 abbrev pub orderRefusals : List ℕ → ℕ → List (Case Answer)
-orderRefusals order room = refusal BadOrder (not (goodOrder order)) ∷ refusal ShortSheet (32 above room) ∷ []
+orderRefusals order room = orderTests (goodOrder order) room
 
 -- for a whole train: 1, 2, 3, 4, 5, 11, 12, 13, 14
 abbrev pub recordRefusals : List ℕ → List (Case Answer)
@@ -109,26 +112,36 @@ engineShape engines hauled =
 unfoldable pub accountRefusals : List ℕ → Account → List ℕ → ℕ → List (Case Answer)
 accountRefusals bs hauled order room = engineRefusals bs hauled ++ (orderRefusals order room ++ engineShape (vehicles bs) hauled)
 
--- a refused sheet is not written at all; a done call writes its first 32 bytes and no other
+-- a refused sheet is not written at all; a done call writes the sheet over its first bytes and no other
 abbrev pub written : Answer → List ℕ → List ℕ → List ℕ
-written answer bytes sheet = cond (isDone answer) (bytes ++ drop 32 sheet) sheet
+written answer bytes sheet = cond (isDone answer) (bytes ++ drop sheetLength sheet) sheet
+
+-- the sheet of a train's facts, by the one book there is
+unfoldable pub sheetFor : Facts → Order → List ℕ
+sheetFor f o = sheetOf crossBorder f o
 
 abbrev pub trainAnswer : List ℕ → List ℕ → ℕ → Answer
 trainAnswer bs order room = firstOf Done (trainRefusals bs order room)
 
 abbrev pub trainSheet : List ℕ → List ℕ → List ℕ → List ℕ
-trainSheet bs order sheet = written (trainAnswer bs order (length sheet)) (sheetOf (factsOf (vehicles bs)) (orderOf order)) sheet
+trainSheet bs order sheet = written (trainAnswer bs order (length sheet)) (sheetFor (factsOf (vehicles bs)) (orderOf order)) sheet
 
 abbrev pub accountAnswer : List ℕ → Account → List ℕ → ℕ → Answer
 accountAnswer bs hauled order room = firstOf Done (accountRefusals bs hauled order room)
 
 abbrev pub accountSheet : List ℕ → Account → List ℕ → List ℕ → List ℕ
 accountSheet bs hauled order sheet =
-    written (accountAnswer bs hauled order (length sheet)) (sheetOf (factsBeside (vehicles bs) hauled) (orderOf order)) sheet
+    written (accountAnswer bs hauled order (length sheet)) (sheetFor (factsBeside (vehicles bs) hauled) (orderOf order)) sheet
 
--- one or two whole good records
-pub record GoodEngines (bs : List ℕ) : Type 0 where
-  pub whole : isWhole bs ≡ true
-  pub some : 24 ≤ length bs
-  pub few : length bs ≤ 48
+-- at most 200 whole good records
+pub record GoodRecords (bs : List ℕ) : Type 0 where
+  pub whole : length bs % 24 ≡ 0
+  pub few : recordCount bs ≤ 200
   pub each : all good (recordsOf bs) ≡ true
+
+-- a train parted behind its working engines, ready to be judged
+pub record Parts (bs : List ℕ) (working : ℕ) (hauled : Account) : Type 0 where
+  pub within : 24 * working ≤ length bs
+  pub engines : GoodEngines (take (24 * working) bs)
+  pub ceilings : Within hauled
+  pub facts : factsBeside (vehicles (take (24 * working) bs)) hauled ≡ factsOf (vehicles bs)

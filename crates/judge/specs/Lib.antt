@@ -1,11 +1,2 @@
-pub mod Orders
-pub mod Categories
-pub mod Engines
-pub mod Facts
-pub mod Brakes
-pub mod Rules
-pub mod Grants
-pub mod Sheets
 pub mod Answers
-pub mod Cases
-pub mod Marks
+pub mod Shown

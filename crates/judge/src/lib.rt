@@ -1,30 +1,28 @@
-// The judging library: the order, the categories, the facts of a train, the rules, granting, the sheet.
+// The judging library: what a train, or engines beside an account, is answered, and its sheet.
 ghost use mathlib.Core.Path.{_≡_};
-ghost use mathlib.Core.Bool.{not};
+ghost use mathlib.Core.Bool.{true, not};
 ghost use mathlib.Core.List.{_++_};
 ghost use Prim.Native.Nat.{_≤_};
 ghost use lib.ListN.{length, drop};
-ghost use Rattle.record.specs.Words.{_is_};
+ghost use Rattle.record.specs.Words.{_is_, firstOf};
 ghost use Rattle.record.specs.Vehicles.{vehicles};
-ghost use Rattle.account.specs.Answers.{numberOf as portionDone};
+ghost use Rattle.account.specs.Answers.{numberOf as portionNumber};
 ghost use Rattle.account.specs.Ceilings.{Within};
-ghost use Rattle.judge.specs.Answers.{GoodEngines, trainAnswer, trainSheet, accountAnswer, accountSheet};
-ghost use Rattle.judge.specs.Facts.{factsBeside};
-ghost use Rattle.judge.specs.Orders.{orderOf};
-ghost use Rattle.judge.specs.Sheets.{sheetOf};
+ghost use Rattle.facts.specs.Engines.{GoodEngines};
+ghost use Rattle.facts.specs.Facts.{factsBeside};
+ghost use Rattle.sheets.specs.Sheets.{sheetLength};
+ghost use Rattle.judge.specs.Answers.{isDone, trainShape, sheetFor, trainAnswer, trainSheet, accountAnswer, accountSheet, GoodRecords, Parts};
 use account::Account;
 use account::account_of;
+use facts::facts_beside;
+use order::Order;
+use order::is_good_order;
+use order::read_order;
 use record::vehicle::SIZE;
+use record::vehicle::working_count;
+use sheets::sheet_of;
 
-mod brake;
-mod category;
-mod engine;
-mod fact;
-mod grant;
-mod order;
 mod refusal;
-mod rule;
-mod sheet;
 
 pub enum Answer {
     // 0
@@ -37,7 +35,7 @@ pub enum Answer {
     BadField(usize),
     // 4: the order record
     BadOrder,
-    // 5: the lent sheet is shorter than 32 bytes
+    // 5: the lent sheet is shorter than a sheet
     ShortSheet,
     // 7: an account with a figure above its ceiling
     AboveCeiling,
@@ -51,9 +49,16 @@ pub enum Answer {
     NothingHauled,
 }
 
+// A train of good records parted: its answer, how many working engines stand in front, and the account of the rest.
+struct Parted {
+    answer: Answer,
+    working: usize,
+    hauled: Account,
+}
+
 // Whether a portion was refused as hauled.
 fn is_refused(answer: account::Answer) -> bool
-    ensures { λ r. ⌜ r ≡ not (portionDone answer is 0) ⌝ }
+    ensures { λ r. ⌜ r ≡ not (portionNumber answer is 0) ⌝ }
 {
     match answer {
         account::Answer::Done => false,
@@ -65,15 +70,35 @@ fn is_refused(answer: account::Answer) -> bool
     }
 }
 
+// 11, 12, 13, 14 of a train, and its parts.
+fn part_train(train: &[u8]) -> Parted
+    requires { ⌜ GoodRecords (now train) ⌝ }
+    ensures { λ r. ⌜ r .answer ≡ firstOf Answer.Done (trainShape (vehicles (now (train .entry)))) ⌝ }
+    ensures { λ r. ⌜ (isDone (r .answer) ≡ true → Parts (now (train .entry)) (r .working) (r .hauled)) ⌝ }
+{
+    let working = working_count(train);
+    let split = SIZE * working;
+    let part = account_of(&train[split..]);
+    let hauled = part.account;
+    let answer = part.answer;
+    let refused = is_refused(answer);
+    let late = refusal::shape_refusal(working == 0, refused, working, hauled.count);
+    Parted {
+        answer: late,
+        working: working,
+        hauled: hauled,
+    }
+}
+
 // Writes the sheet of one or two good working engines beside an account within its ceilings.
-fn judge_beside(engines: &[u8], hauled: Account, order: &[u8], sheet: &mut [u8])
+fn put_beside(engines: &[u8], hauled: Account, order: Order, sheet: &mut [u8])
     requires { ⌜ GoodEngines (now engines) ⌝ }
     requires { ⌜ Within hauled ⌝ }
-    requires { ⌜ (length (now order) ≡ 24) × (32 ≤ length (now sheet)) ⌝ }
-    ensures { λ _. ⌜ now (sheet .exit) ≡ sheetOf (factsBeside (vehicles (now (engines .entry))) hauled) (orderOf (now (order .entry))) ++ drop 32 (now (sheet .entry)) ⌝ }
+    requires { ⌜ sheetLength ≤ length (now sheet) ⌝ }
+    ensures { λ _. ⌜ now (sheet .exit) ≡ sheetFor (factsBeside (vehicles (now (engines .entry))) hauled) order ++ drop sheetLength (now (sheet .entry)) ⌝ }
 {
-    let facts = fact::facts_beside(engine::engines_of(engines), hauled);
-    sheet::put_sheet(facts, order::order_of(order), sheet);
+    let made = sheet_of(facts_beside(engines, hauled), order);
+    bytes::copy(&made, sheet);
 }
 
 // The sheet of a whole train.
@@ -81,25 +106,22 @@ pub fn sheet_of_train(vehicles: &[u8], order: &[u8], sheet: &mut [u8]) -> Answer
     ensures { λ r. ⌜ r ≡ trainAnswer (now (vehicles .entry)) (now (order .entry)) (length (now (sheet .entry))) ⌝ }
     ensures { λ _. ⌜ now (sheet .exit) ≡ trainSheet (now (vehicles .entry)) (now (order .entry)) (now (sheet .entry)) ⌝ }
 {
-    let room = sheet.len();
-    let early = refusal::or_else(
-        refusal::record_refusal(vehicles),
-        refusal::order_refusal(order, room),
-    );
-    if !refusal::is_done(early) {
-        return early;
+    let records = refusal::record_refusal(vehicles);
+    if !refusal::is_done(records) {
+        return records;
     }
-    let working = refusal::working_count(vehicles);
-    let split = SIZE * working;
-    let part = account_of(&vehicles[split..]);
-    let hauled = part.account;
-    let answer = part.answer;
-    let refused = is_refused(answer);
-    let late = refusal::shape_refusal(working == 0, refused, working, hauled.count);
+    let lent = refusal::order_refusal(is_good_order(order), sheet.len());
+    if !refusal::is_done(lent) {
+        return lent;
+    }
+    let parts = part_train(vehicles);
+    let late = parts.answer;
     if !refusal::is_done(late) {
         return late;
     }
-    judge_beside(&vehicles[..split], hauled, order, sheet);
+    let split = SIZE * parts.working;
+    let hauled = parts.hauled;
+    put_beside(&vehicles[..split], hauled, read_order(order), sheet);
     Answer::Done
 }
 
@@ -108,20 +130,20 @@ pub fn sheet_of_account(engines: &[u8], hauled: Account, order: &[u8], sheet: &m
     ensures { λ r. ⌜ r ≡ accountAnswer (now (engines .entry)) hauled (now (order .entry)) (length (now (sheet .entry))) ⌝ }
     ensures { λ _. ⌜ now (sheet .exit) ≡ accountSheet (now (engines .entry)) hauled (now (order .entry)) (now (sheet .entry)) ⌝ }
 {
-    let room = sheet.len();
-    let early = refusal::or_else(
-        refusal::engine_refusal(engines, hauled),
-        refusal::order_refusal(order, room),
-    );
-    if !refusal::is_done(early) {
-        return early;
+    let records = refusal::engine_refusal(engines, hauled);
+    if !refusal::is_done(records) {
+        return records;
     }
-    let working = refusal::working_count(engines);
+    let lent = refusal::order_refusal(is_good_order(order), sheet.len());
+    if !refusal::is_done(lent) {
+        return lent;
+    }
+    let working = working_count(engines);
     let n = engines.len() / SIZE;
     let late = refusal::shape_refusal(working < n, false, n, hauled.count);
     if !refusal::is_done(late) {
         return late;
     }
-    judge_beside(engines, hauled, order, sheet);
+    put_beside(engines, hauled, read_order(order), sheet);
     Answer::Done
 }

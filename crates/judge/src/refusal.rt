@@ -1,18 +1,17 @@
 // The refusals, group by group, in document 01's order.
 ghost use mathlib.Core.Path.{_≡_};
 ghost use mathlib.Core.List.{[], _∷_};
-ghost use Rattle.record.specs.Words.{leading, firstOf};
-ghost use Rattle.record.specs.Vehicles.{vehicles, isWorking};
-ghost use Rattle.judge.specs.Answers.{isDone, orElse, badField, recordRefusals, orderRefusals, engineRefusals, shape};
+ghost use Rattle.record.specs.Words.{firstOf};
+ghost use Rattle.judge.specs.Answers.{isDone, badField, recordRefusals, orderTests, engineRefusals, shape};
 use crate::Answer;
-use crate::order::is_good_order;
 use account::Account;
 use account::within_ceilings;
 use record::vehicle::Found;
 use record::vehicle::SIZE;
 use record::vehicle::first_bad;
+use sheets::LENGTH;
 
-pub fn is_done(answer: Answer) -> bool
+pub(crate) fn is_done(answer: Answer) -> bool
     ensures { λ r. ⌜ r ≡ isDone answer ⌝ }
 {
     match answer {
@@ -30,21 +29,6 @@ pub fn is_done(answer: Answer) -> bool
     }
 }
 
-// How many working engines stand in front.
-pub fn working_count(records: &[u8]) -> usize
-    ensures { λ r. ⌜ r ≡ leading isWorking (vehicles (now (records .entry))) ⌝ }
-{
-    let n = records.len() / SIZE;
-    let mut i = 0;
-    while i < n {
-        if records[SIZE * i + 17] != 2 {
-            return i;
-        }
-        i += 1;
-    }
-    i
-}
-
 // 3.
 fn field_refusal(records: &[u8]) -> Answer
     ensures { λ r. ⌜ r ≡ firstOf Answer.Done (badField (now (records .entry)) ∷ []) ⌝ }
@@ -56,7 +40,7 @@ fn field_refusal(records: &[u8]) -> Answer
 }
 
 // 1, 2, 3 of a whole train.
-pub fn record_refusal(vehicles: &[u8]) -> Answer
+pub(crate) fn record_refusal(vehicles: &[u8]) -> Answer
     ensures { λ r. ⌜ r ≡ firstOf Answer.Done (recordRefusals (now (vehicles .entry))) ⌝ }
 {
     if (vehicles.len() == 0) | (vehicles.len() % SIZE != 0) {
@@ -69,7 +53,7 @@ pub fn record_refusal(vehicles: &[u8]) -> Answer
 }
 
 // 1, 7, 2, 3 of engines with an account.
-pub fn engine_refusal(engines: &[u8], hauled: Account) -> Answer
+pub(crate) fn engine_refusal(engines: &[u8], hauled: Account) -> Answer
     ensures { λ r. ⌜ r ≡ firstOf Answer.Done (engineRefusals (now (engines .entry)) hauled) ⌝ }
 {
     if (engines.len() == 0) | (engines.len() % SIZE != 0) {
@@ -85,20 +69,20 @@ pub fn engine_refusal(engines: &[u8], hauled: Account) -> Answer
 }
 
 // 4, 5.
-pub fn order_refusal(order: &[u8], room: usize) -> Answer
-    ensures { λ r. ⌜ r ≡ firstOf Answer.Done (orderRefusals (now (order .entry)) room) ⌝ }
+pub(crate) fn order_refusal(good: bool, room: usize) -> Answer
+    ensures { λ r. ⌜ r ≡ firstOf Answer.Done (orderTests good room) ⌝ }
 {
-    if !is_good_order(order) {
+    if !good {
         return Answer::BadOrder;
     }
-    if room < 32 {
+    if room < LENGTH {
         return Answer::ShortSheet;
     }
     Answer::Done
 }
 
 // 11, 12, 13, 14.
-pub fn shape_refusal(not_working: bool, behind: bool, engines: usize, hauled: u32) -> Answer
+pub(crate) fn shape_refusal(not_working: bool, behind: bool, engines: usize, hauled: u32) -> Answer
     ensures { λ r. ⌜ r ≡ firstOf Answer.Done (shape «not_working» behind engines hauled) ⌝ }
 {
     if not_working {
@@ -114,10 +98,4 @@ pub fn shape_refusal(not_working: bool, behind: bool, engines: usize, hauled: u3
         return Answer::NothingHauled;
     }
     Answer::Done
-}
-
-pub fn or_else(first: Answer, second: Answer) -> Answer
-    ensures { λ r. ⌜ r ≡ orElse first second ⌝ }
-{
-    if is_done(first) { second } else { first }
 }

@@ -5,6 +5,15 @@ use mathlib.Core.List.{List, [], _∷_}
 use lib.Dec.{ltb}
 use lib.IntN.{ℤ, pos, negsuc, _-ℤ_, _*ℤ_}
 use lib.ListN.{getD}
+use Rattle.margin.specs.declared.Braked.{Braked}
+
+-- Q, four times the braked mass before k
+unfoldable pub fourfold : Braked → ℕ
+fourfold b = 4 * b .set + 4 * b .whole + 3 * b .reduced
+
+-- braked mass after deduction, in tenths rounded down
+abbrev pub leftOf : ℕ → ℕ → ℕ
+leftOf q k = q * (100 - k) / 400
 
 -- "Q x (100 - k) - 4 x p x T", every operation over ℤ, so for every k
 unfoldable pub marginOf : ℕ → ℕ → ℕ → ℕ → ℤ

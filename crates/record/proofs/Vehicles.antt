@@ -1,69 +1,27 @@
 -- Laws of the fields, of what is good, and of the first bad record. Assumes nothing.
-use Prim.Native.Nat.{ℕ, zero, suc, _+_, _*_, _-_, _^_, _%_, _≤_, _<_}
-use mathlib.Core.Path.{_≡_, refl, sym, ap, ap₂, _∙_}
+use Prim.Native.Nat.{ℕ, suc, _+_, _*_, _-_, _^_, _%_, _≤_, _<_}
+use mathlib.Core.Path.{_≡_, refl, sym, ap, _∙_}
 use mathlib.Core.List.{List, [], _∷_, _++_, map, map-append}
-use mathlib.Core.Bool.{Bool, true, false, _&&_, _||_, cond, false≢true, and-true, and-false, and-assoc}
-use native.Mathlib.Nat.{not-suc-le-zero, le-of-suc-le-suc, add-sub-cancel-left}
+use mathlib.Core.Bool.{Bool, true, false, _&&_, _||_, cond, and-true, and-false}
+use native.Mathlib.Nat.{add-zero, add-sub-cancel-left}
 use native.Mathlib.Numerals.{add-one}
 use native.Mathlib.Omega.{arith}
 use borrow.Author.Tests.{leb-true, eqb-true, eq-eqb, ne-eqb}
 use lib.Dec.{leb, eqb}
-use lib.ListN.{length, getD, take, drop, length-take}
-use lib.Seq.{take-suc, take-all}
+use lib.ListN.{length, getD, take, drop, length-take, length-map, take-append-drop}
+use lib.Seq.{take-suc, take-all, getD-take, getD-drop, drop-cons, length-take-le}
 use Rattle.record.specs.Words.{all, leading}
 use Rattle.record.specs.Numbers.{littleEndian}
-use Rattle.record.specs.Records.{records, recordsOf}
-use Rattle.record.specs.Vehicles.{Field, field, fields, nth, value, fieldGood, good, vehicle, reading, firstBad, vehicles}
+use Rattle.record.specs.Records.{records, recordsOf, hasByte}
+use Rattle.record.specs.Vehicles.{Field, field, fields, nth, value, fieldGood, good, vehicle, reading, firstBad, vehicles, isHauledEngine, isWorking, isIsolated}
 use Rattle.record.specs.declared.vehicle.Vehicle.{Vehicle}
 use Rattle.record.specs.declared.vehicle.Reading.the-variants.{Good, Bad}
 use Rattle.record.specs.declared.vehicle.Found.{Found}
 use Rattle.record.specs.declared.vehicle.Found.the-variants.{At, Nothing}
+pub use Rattle.record.proofs.Lists.{both, all-append, all-snoc, all-not, all-at, leading-all, leading-to, chain, chain-all}
+use Rattle.record.proofs.Lists.{all-but, leading-map}
 use Rattle.record.proofs.Numbers.{Bytes, bytes-take, bytes-drop, number-below}
 use Rattle.record.proofs.Records.{recordAt, part-record, records-snoc, records-split, length-records, records-append, record-alone}
-
-pub both : (p q : Bool) → (p && q) ≡ true → (p ≡ true) × (q ≡ true)
-both true q e = (refl, e)
-both false q e = absurd (false≢true e)
-
--- ---- every member passes
-module _ {A : Type 0} (p : A → Bool) where
-  pub all-append : (xs ys : List A) → all p (xs ++ ys) ≡ (all p xs && all p ys)
-  unfolding all
-  all-append [] ys = refl
-  all-append (x ∷ xs) ys = ap (λ (b : Bool). p x && b) (all-append xs ys) ∙ sym (and-assoc (p x) (all p xs) (all p ys))
-
-  pub all-snoc : (xs : List A) (x : A) → all p xs ≡ true → p x ≡ true → all p (xs ++ (x ∷ [])) ≡ true
-  unfolding all
-  all-snoc xs x h e = all-append xs (x ∷ []) ∙ ap₂ _&&_ h (rw e)
-
-  pub all-not : (xs : List A) (i : ℕ) (d : A) → i < length xs → p (getD xs i d) ≡ false → all p xs ≡ false
-  unfolding all
-  all-not [] i d h e = absurd (not-suc-le-zero h)
-  all-not (y ∷ ys) zero d h e = rw e
-  all-not (y ∷ ys) (suc i) d h e = rw (all-not ys i d (le-of-suc-le-suc h) e) (and-false (p y))
-
-  pub all-at : (xs : List A) (i : ℕ) (d : A) → i < length xs → all p xs ≡ true → p (getD xs i d) ≡ true
-  unfolding all
-  all-at [] i d h e = absurd (not-suc-le-zero h)
-  all-at (y ∷ ys) zero d h e = both (p y) (all p ys) e .0
-  all-at (y ∷ ys) (suc i) d h e = all-at ys i d (le-of-suc-le-suc h) (both (p y) (all p ys) e .1)
-
-  pub leading-all : (xs : List A) → all p xs ≡ true → leading p xs ≡ length xs
-  unfolding all
-  leading-all [] h = refl
-  leading-all (x ∷ xs) h =
-      let t = both (p x) (all p xs) h in
-      rw (t .0) (ap suc (leading-all xs (t .1)))
-
-  -- the test as code makes it, one comparison after the other
-  abbrev pub chain : Bool → List A → Bool
-  chain b [] = b
-  chain b (x ∷ xs) = chain (b && p x) xs
-
-  pub chain-all : (b : Bool) (xs : List A) → chain b xs ≡ (b && all p xs)
-  unfolding all
-  chain-all b [] = sym (and-true b)
-  chain-all b (x ∷ xs) = chain-all (b && p x) xs ∙ and-assoc b (p x) (all p xs)
 
 -- ---- the table of fields
 -- what one computed test says of every row: a field lies in its record, and is one, two or eight bytes wide
@@ -154,18 +112,6 @@ bad-place rs place e = go (all good rs) e
     go false e = cc
 
 -- a bad record behind good ones
-module _ {A : Type 0} (p : A → Bool) (x : A) (bad : p x ≡ false) (ys : List A) where
-  pub leading-to : (xs : List A) → all p xs ≡ true → leading p (xs ++ x ∷ ys) ≡ length xs
-  unfolding all
-  leading-to [] h = rw bad
-  leading-to (w ∷ xs) h =
-      let t = both (p w) (all p xs) h in
-      rw (t .0) (ap suc (leading-to xs (t .1)))
-
-  pub all-but : (xs : List A) → all p (xs ++ x ∷ ys) ≡ false
-  unfolding all
-  all-but xs = all-append p xs (x ∷ ys) ∙ ap (λ (b : Bool). all p xs && (b && all p ys)) bad ∙ and-false (all p xs)
-
 module _ (n i : ℕ) (bs : List ℕ) (within : i < n) (before : all good (records i bs) ≡ true) (bad : good (recordAt bs i) ≡ false) where
   pub first-place : (all good (records n bs) ≡ false) × (leading good (records n bs) ≡ i)
   first-place =
@@ -178,6 +124,14 @@ module _ (n i : ℕ) (bs : List ℕ) (within : i < n) (before : all good (record
   pub bad-first : firstBad (records n bs) ≡ At i
   unfolding firstBad
   bad-first = rw (first-place .0) (ap At (first-place .1))
+
+-- a bad record with good ones alone in front of it
+pub bad-behind : (rs : List (List ℕ)) (i : ℕ) → i < length rs → all good (take i rs) ≡ true → good (getD rs i []) ≡ false → firstBad rs ≡ At i
+unfolding firstBad
+bad-behind rs i h before bad =
+    let split : rs ≡ take i rs ++ getD rs i [] ∷ drop (suc i) rs = sym (take-append-drop i rs) ∙ ap (λ (l : List (List ℕ)). take i rs ++ l) (drop-cons rs i [] h) in
+    let place = ap (leading good) split ∙ leading-to good (getD rs i []) bad (drop (suc i) rs) (take i rs) before ∙ length-take-le i rs (omega arith) in
+    rw (ap (all good) split ∙ all-but good (getD rs i []) bad (drop (suc i) rs) (take i rs)) (ap At place)
 
 -- ---- what a record reads as
 pub reading-bad : (r : List ℕ) → good r ≡ false → Bad ≡ reading r
@@ -221,5 +175,46 @@ alone-good r h = bad-is (recordsOf r) ∙ ap (all good) (record-alone r h) ∙ a
 pub vehicles-snoc : (i : ℕ) (bs : List ℕ) → map vehicle (records (suc i) bs) ≡ map vehicle (records i bs) ++ (vehicle (recordAt bs i) ∷ [])
 vehicles-snoc i bs = ap (map vehicle) (records-snoc i bs) ∙ map-append vehicle (records i bs) (recordAt bs i ∷ [])
 
+pub length-vehicles : (n : ℕ) (bs : List ℕ) → length (map vehicle (records n bs)) ≡ n
+length-vehicles n bs = length-map (records n bs) vehicle ∙ length-records n bs
+
 pub vehicles-append : (a b : List ℕ) → length a % 24 ≡ 0 → vehicles (a ++ b) ≡ vehicles a ++ vehicles b
 vehicles-append a b h = ap (map vehicle) (records-append a b h) ∙ map-append vehicle (recordsOf a) (recordsOf b)
+
+-- ---- the records in front that have a byte
+module _ (at x : ℕ) (bs : List ℕ) where
+  byte-there : (k : ℕ) → at < 24 → getD (recordAt bs k) at 0 ≡ getD bs (24 * k + at) 0
+  byte-there k h = getD-take 24 (drop (24 * k) bs) at 0 h ∙ getD-drop (24 * k) bs at 0
+
+  pub front-more : (k : ℕ) → at < 24 → all (hasByte at x) (records k bs) ≡ true → getD bs (24 * k + at) 0 ≡ x → all (hasByte at x) (records (k + 1) bs) ≡ true
+  front-more k h t e = rw (add-one, records-snoc) (all-snoc (hasByte at x) (records k bs) (recordAt bs k) t (eq-eqb _ x (byte-there k h ∙ e)))
+
+  pub front-ends : (n k : ℕ) → at < 24 → k < n → all (hasByte at x) (records k bs) ≡ true → (getD bs (24 * k + at) 0 ≡ x → ⊥) → k ≡ leading (hasByte at x) (records n bs)
+  front-ends n k h l t e =
+      sym (length-records k bs)
+      ∙ sym (leading-to (hasByte at x) (recordAt bs k) (ne-eqb _ x (λ q. e (sym (byte-there k h) ∙ q))) _ (records k bs) t)
+      ∙ ap (leading (hasByte at x)) (sym (records-split n k bs l))
+
+  pub front-whole : (n : ℕ) → all (hasByte at x) (records n bs) ≡ true → n ≡ leading (hasByte at x) (records n bs)
+  front-whole n t = sym (length-records n bs) ∙ sym (leading-all (hasByte at x) (records n bs) t)
+
+-- a field of one byte
+one-byte : (l : List ℕ) → littleEndian (take 1 l) ≡ getD l 0 0
+unfolding littleEndian
+one-byte [] = refl
+one-byte (b ∷ l) = omega arith
+
+byte-field : (r : List ℕ) (s : ℕ) → littleEndian (take 1 (drop s r)) ≡ getD r s 0
+byte-field r s = one-byte (drop s r) ∙ getD-drop s r 0 0 ∙ ap (λ (k : ℕ). getD r k 0) (add-zero s)
+
+pub front-working : (rs : List (List ℕ)) → leading isWorking (map vehicle rs) ≡ leading (hasByte 17 2) rs
+unfolding vehicle
+front-working = leading-map isWorking (hasByte 17 2) vehicle (λ r. ap (λ (b : ℕ). eqb b 2) (byte-field r 17))
+
+pub front-engines : (rs : List (List ℕ)) → leading isHauledEngine (map vehicle rs) ≡ leading (hasByte 17 1) rs
+unfolding vehicle
+front-engines = leading-map isHauledEngine (hasByte 17 1) vehicle (λ r. ap (λ (b : ℕ). eqb b 1) (byte-field r 17))
+
+pub front-isolated : (rs : List (List ℕ)) → leading isIsolated (map vehicle rs) ≡ leading (hasByte 18 0) rs
+unfolding vehicle
+front-isolated = leading-map isIsolated (hasByte 18 0) vehicle (λ r. ap (λ (b : ℕ). eqb b 0) (byte-field r 18))

@@ -1,4 +1,5 @@
 pub mod Words
+pub mod Figures
 pub mod Numbers
 pub mod Records
 pub mod Vehicles

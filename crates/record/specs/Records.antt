@@ -2,7 +2,7 @@
 use Prim.Native.Nat.{ℕ, zero, suc, _/_, _%_}
 use mathlib.Core.Bool.{Bool}
 use mathlib.Core.List.{List, [], _∷_}
-use lib.ListN.{length, take, drop}
+use lib.ListN.{length, getD, take, drop}
 use Rattle.record.specs.Words.{_is_}
 
 -- the first n records, in order
@@ -21,3 +21,7 @@ recordsOf bs = records (recordCount bs) bs
 -- a multiple of 24 bytes
 abbrev pub isWhole : List ℕ → Bool
 isWhole bs = length bs % 24 is 0
+
+-- whether a record has x at a byte
+abbrev pub hasByte : ℕ → ℕ → List ℕ → Bool
+hasByte at x r = getD r at 0 is x

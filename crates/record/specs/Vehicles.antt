@@ -103,6 +103,24 @@ vehicles bs = map vehicle (recordsOf bs)
 unfoldable pub firstBad : List (List ℕ) → Found
 firstBad rs = cond (all good rs) Nothing (At (leading good rs))
 
+-- the number and the place of what the scan found: 3 and the place, and 0 where nothing is bad
+abbrev pub foundNumber : Found → ℕ
+foundNumber Nothing = 0
+foundNumber (At place) = 3
+
+abbrev pub foundPlace : Found → ℕ
+foundPlace Nothing = 0
+foundPlace (At place) = place
+
+-- and of what one record reads as, it being the first of its own
+abbrev pub readingNumber : Reading → ℕ
+readingNumber (Good v) = 0
+readingNumber Bad = 3
+
+abbrev pub readingPlace : Reading → ℕ
+readingPlace (Good v) = 0
+readingPlace Bad = 0
+
 -- byte 17, the kind
 abbrev pub isWagon : Vehicle → Bool
 isWagon v = v .kind is 0

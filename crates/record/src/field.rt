@@ -8,9 +8,14 @@ use crate::byte::two;
 use crate::byte::wide;
 
 // A field's first byte, its width in bytes, the low and the high end of its range.
-pub struct Field(pub usize, pub usize, pub u64, pub u64);
+pub(crate) struct Field(
+    pub(crate) usize,
+    pub(crate) usize,
+    pub(crate) u64,
+    pub(crate) u64,
+);
 
-pub const FIELDS: usize = 13;
+pub(crate) const FIELDS: usize = 13;
 
 // The row of a field in document 01's table, in its order. A match is folded away where a const array is laid out anew at each call.
 fn row_of(f: usize) -> Field
@@ -35,7 +40,7 @@ fn row_of(f: usize) -> Field
 }
 
 // The number in field `f` of a record. Fields are one, two or eight bytes wide.
-pub fn value_of(bytes: &[u8], f: usize) -> u64
+pub(crate) fn value_of(bytes: &[u8], f: usize) -> u64
     requires { ⌜ (f < 13) × (24 ≤ length (now bytes)) ⌝ }
     ensures { λ r. ⌜ r ≡ value (now (bytes .entry)) (nth f) ⌝ }
 {
@@ -52,7 +57,7 @@ pub fn value_of(bytes: &[u8], f: usize) -> u64
 }
 
 // Whether field `f` of a record is in its range.
-pub fn is_in_range(bytes: &[u8], f: usize) -> bool
+pub(crate) fn is_in_range(bytes: &[u8], f: usize) -> bool
     requires { ⌜ (f < 13) × (24 ≤ length (now bytes)) ⌝ }
     ensures { λ r. ⌜ r ≡ fieldGood (now (bytes .entry)) (nth f) ⌝ }
 {

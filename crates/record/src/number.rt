@@ -1,4 +1,4 @@
-// Numbers out of bytes, little-endian.
+// Numbers out of bytes, little-endian; the lesser of two.
 ghost use mathlib.Core.Path.{_≡_};
 ghost use Prim.Native.Nat.{min};
 ghost use lib.ListN.{take};
@@ -23,4 +23,10 @@ pub fn number(bytes: &[u8]) -> u64
         x = x * 256 + wide(bytes[k]);
     }
     x
+}
+
+pub fn lesser(x: u32, y: u32) -> u32
+    ensures { λ r. ⌜ r ≡ min x y ⌝ }
+{
+    if x < y { x } else { y }
 }

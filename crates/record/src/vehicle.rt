@@ -1,9 +1,10 @@
-// Reading a vehicle record, and the scan for the first bad one.
+// Reading a vehicle record, the scan for the first bad one, and how many stand in front by kind or setting.
 ghost use mathlib.Core.Path.{_≡_};
 ghost use Prim.Native.Nat.{_<_, _≤_};
 ghost use lib.ListN.{length};
-ghost use Rattle.record.specs.Records.{recordsOf};
-ghost use Rattle.record.specs.Vehicles.{nth, value, vehicle, reading, firstBad};
+ghost use Rattle.record.specs.Records.{recordsOf, hasByte};
+ghost use Rattle.record.specs.Vehicles.{nth, value, vehicle, vehicles, reading, firstBad, isHauledEngine, isWorking, isIsolated};
+ghost use Rattle.record.specs.Words.{leading};
 use crate::field::FIELDS;
 use crate::field::is_in_range;
 use crate::field::value_of;
@@ -109,4 +110,41 @@ pub fn read(bytes: &[u8]) -> Reading
         Found::Nothing => Reading::Good(vehicle_of(bytes)),
         Found::At(_) => Reading::Bad,
     }
+}
+
+// How many records from the first on have `x` at byte `at`.
+fn leading_with(records: &[u8], at: usize, x: u8) -> usize
+    requires { ⌜ at < 24 ⌝ }
+    ensures { λ r. ⌜ r ≡ leading (hasByte at x) (recordsOf (now (records .entry))) ⌝ }
+{
+    let n = records.len() / SIZE;
+    let mut k = 0;
+    while k < n {
+        if records[SIZE * k + at] != x {
+            return k;
+        }
+        k += 1;
+    }
+    n
+}
+
+// How many working engines stand in front. Byte 17 is the kind.
+pub fn working_count(records: &[u8]) -> usize
+    ensures { λ r. ⌜ r ≡ leading isWorking (vehicles (now (records .entry))) ⌝ }
+{
+    leading_with(records, 17, 2)
+}
+
+// How many hauled engines stand in front.
+pub fn leading_engines(records: &[u8]) -> usize
+    ensures { λ r. ⌜ r ≡ leading isHauledEngine (vehicles (now (records .entry))) ⌝ }
+{
+    leading_with(records, 17, 1)
+}
+
+// How many isolated records stand in front. Byte 18 is the setting.
+pub fn leading_isolated(records: &[u8]) -> usize
+    ensures { λ r. ⌜ r ≡ leading isIsolated (vehicles (now (records .entry))) ⌝ }
+{
+    leading_with(records, 18, 0)
 }

@@ -1,85 +1,103 @@
-// An account as it travels between programs, in 64 bytes; include/prskavon.h has the table.
+// An account as it travels between programs, in 128 bytes; include/prskavon.h has the table.
 ghost use mathlib.Core.Path.{_≡_};
-ghost use Prim.Native.Nat.{_+_, _≤_};
+ghost use Prim.Native.Nat.{_+_, _<_, _≤_};
 ghost use lib.ListN.{length};
-ghost use Rattle.travel.specs.AccountRecords.{figureAt, accountIn, isPlain, aboveCeiling, offered, mark, recordWith, recordOf};
+ghost use lib.Seq.{sets};
+ghost use Rattle.record.specs.Words.{_is_, all};
+ghost use Rattle.travel.specs.AccountRecords.{size, unusedIn, figureAt, byteAt, accountIn, isPlain, aboveCeiling, offered, figureBytes, mark, settingByte, recordOf};
 use account::Account;
 use record::number::number;
 
 // The bytes of an account.
-pub const SIZE: usize = 64;
+pub const SIZE: usize = 128;
 
-// The number in the `width` bytes from `at` on.
-fn figure(bytes: &[u8], at: usize, width: usize) -> u64
-    requires { ⌜ (at + width ≤ length (now bytes)) × (width ≤ 8) ⌝ }
-    ensures { λ r. ⌜ r ≡ figureAt at width (now (bytes .entry)) ⌝ }
+// The first byte that is not used.
+const UNUSED: usize = 69;
+
+// The number in the four bytes from `at` on.
+fn figure(bytes: &[u8], at: usize) -> u32
+    requires { ⌜ at + 4 ≤ length (now bytes) ⌝ }
+    ensures { λ r. ⌜ r ≡ figureAt at (now (bytes .entry)) ⌝ }
 {
-    number(&bytes[at..at + width])
+    number(&bytes[at..at + 4]) as u32
 }
 
-fn small(bytes: &[u8], at: usize, width: usize) -> u32
-    requires { ⌜ (at + width ≤ length (now bytes)) × (width ≤ 4) ⌝ }
-    ensures { λ r. ⌜ r ≡ figureAt at width (now (bytes .entry)) ⌝ }
+// The setting in the byte at `at`.
+fn setting_at(bytes: &[u8], at: usize) -> u32
+    requires { ⌜ at < length (now bytes) ⌝ }
+    ensures { λ r. ⌜ r ≡ byteAt at (now (bytes .entry)) ⌝ }
 {
-    figure(bytes, at, width) as u32
+    bytes[at] as u32
+}
+
+fn first_in(bytes: &[u8]) -> [u32; 5]
+    requires { ⌜ length (now bytes) ≡ size ⌝ }
+    ensures { λ r. ⌜ r ≡ accountIn (now (bytes .entry)) .first ⌝ }
+{
+    [
+        setting_at(bytes, 64),
+        setting_at(bytes, 65),
+        setting_at(bytes, 66),
+        setting_at(bytes, 67),
+        setting_at(bytes, 68),
+    ]
 }
 
 fn account_in(bytes: &[u8]) -> Account
-    requires { ⌜ length (now bytes) ≡ 64 ⌝ }
+    requires { ⌜ length (now bytes) ≡ size ⌝ }
     ensures { λ r. ⌜ r ≡ accountIn (now (bytes .entry)) ⌝ }
 {
     let first = first_in(bytes);
     Account {
-        count: small(bytes, 0, 4),
-        mass: small(bytes, 4, 4),
-        vmass: small(bytes, 8, 4),
-        mmass: small(bytes, 12, 4),
-        length: small(bytes, 16, 4),
-        axles: small(bytes, 20, 2),
-        vaxles: small(bytes, 22, 2),
-        engines: small(bytes, 24, 1),
-        mset: small(bytes, 25, 1),
-        isolated: small(bytes, 26, 1),
-        dloads: small(bytes, 27, 1),
-        leading: small(bytes, 28, 1),
-        trailing: small(bytes, 29, 1),
-        longest: small(bytes, 30, 1),
-        behind: small(bytes, 31, 1) == 1,
-        rule16: small(bytes, 32, 1) == 1,
-        rule17: small(bytes, 33, 1) == 1,
-        rule18: small(bytes, 34, 1) == 1,
-        slowest: small(bytes, 35, 1),
+        count: figure(bytes, 0),
+        mass: figure(bytes, 4),
+        vmass: figure(bytes, 8),
+        mmass: figure(bytes, 12),
+        length: figure(bytes, 16),
+        axles: figure(bytes, 20),
+        vaxles: figure(bytes, 24),
+        engines: figure(bytes, 28),
+        mset: figure(bytes, 32),
+        isolated: figure(bytes, 36),
+        dloads: figure(bytes, 40),
+        leading: figure(bytes, 44),
+        trailing: figure(bytes, 48),
+        longest: figure(bytes, 52),
+        behind: bytes[56] == 1,
+        rule16: bytes[57] == 1,
+        rule17: bytes[58] == 1,
+        rule18: bytes[59] == 1,
+        slowest: figure(bytes, 60),
         first: first,
     }
 }
 
-fn first_in(bytes: &[u8]) -> [u32; 5]
-    requires { ⌜ length (now bytes) ≡ 64 ⌝ }
-    ensures { λ r. ⌜ r ≡ accountIn (now (bytes .entry)) .first ⌝ }
+// Whether no byte from `UNUSED` on is above 0.
+fn is_rest_unused(bytes: &[u8]) -> bool
+    requires { ⌜ length (now bytes) ≡ size ⌝ }
+    ensures { λ r. ⌜ r ≡ all (λ u. u is 0) (unusedIn (now (bytes .entry))) ⌝ }
 {
-    [
-        small(bytes, 36, 1),
-        small(bytes, 37, 1),
-        small(bytes, 38, 1),
-        small(bytes, 39, 1),
-        small(bytes, 40, 1),
-    ]
+    let mut unused = true;
+    let mut i = UNUSED;
+    while i < SIZE {
+        unused = unused & (bytes[i] == 0);
+        i += 1;
+    }
+    unused
 }
 
-// Whether there are 64 bytes, no mark above 1 and no unused byte above 0.
+// Whether the length is an account's, no mark above 1 and no unused byte above 0.
 fn is_plain(bytes: &[u8]) -> bool
     ensures { λ r. ⌜ r ≡ isPlain (now (bytes .entry)) ⌝ }
 {
     if bytes.len() != SIZE {
         return false;
     }
-    (figure(bytes, 31, 1) <= 1)
-        & (figure(bytes, 32, 1) <= 1)
-        & (figure(bytes, 33, 1) <= 1)
-        & (figure(bytes, 34, 1) <= 1)
-        & (figure(bytes, 41, 8) <= 0)
-        & (figure(bytes, 49, 8) <= 0)
-        & (figure(bytes, 57, 7) <= 0)
+    (bytes[56] <= 1)
+        & (bytes[57] <= 1)
+        & (bytes[58] <= 1)
+        & (bytes[59] <= 1)
+        & is_rest_unused(bytes)
 }
 
 // An account above its ceiling, where bytes are none.
@@ -121,77 +139,15 @@ pub fn offered_by(bytes: &[u8]) -> Account
     }
 }
 
-// An account's 64 bytes, with its marks as bytes.
-fn bytes_with(a: Account, behind: u8, rule16: u8, rule17: u8, rule18: u8) -> [u8; 64]
-    ensures { λ r. ⌜ r ≡ recordWith a behind rule16 rule17 rule18 ⌝ }
+// Puts a figure into the four bytes from `at` on.
+fn put_figure(bytes: &mut [u8; SIZE], at: usize, x: u32)
+    requires { ⌜ at + 4 ≤ size ⌝ }
+    ensures { λ _. ⌜ now (bytes .exit) ≡ sets (now (bytes .entry)) at (figureBytes x) ⌝ }
 {
-    let first = a.first;
-    [
-        (a.count % 256) as u8,
-        (a.count / 256 % 256) as u8,
-        (a.count / 65536 % 256) as u8,
-        (a.count / 16777216 % 256) as u8,
-        (a.mass % 256) as u8,
-        (a.mass / 256 % 256) as u8,
-        (a.mass / 65536 % 256) as u8,
-        (a.mass / 16777216 % 256) as u8,
-        (a.vmass % 256) as u8,
-        (a.vmass / 256 % 256) as u8,
-        (a.vmass / 65536 % 256) as u8,
-        (a.vmass / 16777216 % 256) as u8,
-        (a.mmass % 256) as u8,
-        (a.mmass / 256 % 256) as u8,
-        (a.mmass / 65536 % 256) as u8,
-        (a.mmass / 16777216 % 256) as u8,
-        (a.length % 256) as u8,
-        (a.length / 256 % 256) as u8,
-        (a.length / 65536 % 256) as u8,
-        (a.length / 16777216 % 256) as u8,
-        (a.axles % 256) as u8,
-        (a.axles / 256 % 256) as u8,
-        (a.vaxles % 256) as u8,
-        (a.vaxles / 256 % 256) as u8,
-        (a.engines % 256) as u8,
-        (a.mset % 256) as u8,
-        (a.isolated % 256) as u8,
-        (a.dloads % 256) as u8,
-        (a.leading % 256) as u8,
-        (a.trailing % 256) as u8,
-        (a.longest % 256) as u8,
-        behind,
-        rule16,
-        rule17,
-        rule18,
-        (a.slowest % 256) as u8,
-        (first[0] % 256) as u8,
-        (first[1] % 256) as u8,
-        (first[2] % 256) as u8,
-        (first[3] % 256) as u8,
-        (first[4] % 256) as u8,
-        0,
-        0,
-        0,
-        0,
-        0,
-        0,
-        0,
-        0,
-        0,
-        0,
-        0,
-        0,
-        0,
-        0,
-        0,
-        0,
-        0,
-        0,
-        0,
-        0,
-        0,
-        0,
-        0,
-    ]
+    bytes[at] = (x % 256) as u8;
+    bytes[at + 1] = (x / 256 % 256) as u8;
+    bytes[at + 2] = (x / 65_536 % 256) as u8;
+    bytes[at + 3] = (x / 16_777_216) as u8;
 }
 
 fn mark_of(holds: bool) -> u8
@@ -200,15 +156,42 @@ fn mark_of(holds: bool) -> u8
     if holds { 1 } else { 0 }
 }
 
-// The 64 bytes of an account within its ceilings; a greater figure is cut to its bytes.
-pub fn record_of(a: Account) -> [u8; 64]
+// A setting above 255 as 255, so that it reads back above its ceiling.
+fn setting_byte(setting: u32) -> u8
+    ensures { λ r. ⌜ r ≡ settingByte setting ⌝ }
+{
+    if setting < 255 { setting as u8 } else { 255 }
+}
+
+// The bytes of an account; one above its ceilings reads back above them.
+pub fn record_of(a: Account) -> [u8; SIZE]
     ensures { λ r. ⌜ r ≡ recordOf a ⌝ }
 {
-    bytes_with(
-        a,
-        mark_of(a.behind),
-        mark_of(a.rule16),
-        mark_of(a.rule17),
-        mark_of(a.rule18),
-    )
+    let first = a.first;
+    let mut bytes = [0u8; SIZE];
+    put_figure(&mut bytes, 0, a.count);
+    put_figure(&mut bytes, 4, a.mass);
+    put_figure(&mut bytes, 8, a.vmass);
+    put_figure(&mut bytes, 12, a.mmass);
+    put_figure(&mut bytes, 16, a.length);
+    put_figure(&mut bytes, 20, a.axles);
+    put_figure(&mut bytes, 24, a.vaxles);
+    put_figure(&mut bytes, 28, a.engines);
+    put_figure(&mut bytes, 32, a.mset);
+    put_figure(&mut bytes, 36, a.isolated);
+    put_figure(&mut bytes, 40, a.dloads);
+    put_figure(&mut bytes, 44, a.leading);
+    put_figure(&mut bytes, 48, a.trailing);
+    put_figure(&mut bytes, 52, a.longest);
+    bytes[56] = mark_of(a.behind);
+    bytes[57] = mark_of(a.rule16);
+    bytes[58] = mark_of(a.rule17);
+    bytes[59] = mark_of(a.rule18);
+    put_figure(&mut bytes, 60, a.slowest);
+    bytes[64] = setting_byte(first[0]);
+    bytes[65] = setting_byte(first[1]);
+    bytes[66] = setting_byte(first[2]);
+    bytes[67] = setting_byte(first[3]);
+    bytes[68] = setting_byte(first[4]);
+    bytes
 }

@@ -9,7 +9,7 @@ use std::fmt;
 pub const VEHICLE: usize = 24;
 pub const ORDER: usize = 24;
 pub const SHEET: usize = 32;
-pub const ACCOUNT: usize = 64;
+pub const ACCOUNT: usize = 128;
 
 /// What a call answers: number 0 is done, and the place is 0 save for number 3.
 #[derive(Clone, Copy, Debug, PartialEq, Eq)]

@@ -207,8 +207,8 @@ fn tour() -> Checked<()> {
     let (number, place) = (3, 3);
     let answer = write_sheet_of_train(&train_a, &order, &mut sheet);
     refused(answer, Refusal { number, place }, &sheet)?;
-    println!("An account with byte 63 set to 1");
-    account.0[63] = 1;
+    println!("An account with byte 127 set to 1");
+    account.0[127] = 1;
     let (number, place) = (7, 0);
     let answer = write_sheet_of_account(&train_a[..VEHICLE], &account, &order, &mut sheet);
     refused(answer, Refusal { number, place }, &sheet)

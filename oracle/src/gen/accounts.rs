@@ -4,6 +4,7 @@ use super::damage::{flip_bytes, Span};
 use super::draft::bytes;
 use super::trains::{plain_train, train, Size};
 use crate::account::{Account, ACCOUNT, NO_SETTING};
+use crate::offered::probes;
 use crate::random::Random;
 use crate::vehicle::{Vehicle, ISOLATED, SET_TO_M, SET_TO_V};
 
@@ -16,33 +17,36 @@ const fn figure(at: usize, width: usize, high: u64) -> Span {
     }
 }
 
-/// Every figure, mark and setting of the 64-byte record with its ceiling.
+/// Every figure, mark and setting of the 128-byte record with its ceiling.
 pub const FIGURES: [Span; 24] = [
     figure(0, 4, 200),
     figure(4, 4, 500_000),
     figure(8, 4, 500_000),
     figure(12, 4, 500_000),
     figure(16, 4, 200_000),
-    figure(20, 2, 4_800),
-    figure(22, 2, 4_800),
-    figure(24, 1, 200),
-    figure(25, 1, 200),
-    figure(26, 1, 200),
-    figure(27, 1, 200),
-    figure(28, 1, 200),
-    figure(29, 1, 200),
-    figure(30, 1, 200),
-    figure(31, 1, 1),
-    figure(32, 1, 1),
-    figure(33, 1, 1),
-    figure(34, 1, 1),
-    figure(35, 1, 200),
-    figure(36, 1, 4),
-    figure(37, 1, 4),
-    figure(38, 1, 4),
-    figure(39, 1, 4),
-    figure(40, 1, 4),
+    figure(20, 4, 4_800),
+    figure(24, 4, 4_800),
+    figure(28, 4, 200),
+    figure(32, 4, 200),
+    figure(36, 4, 200),
+    figure(40, 4, 200),
+    figure(44, 4, 200),
+    figure(48, 4, 200),
+    figure(52, 4, 200),
+    figure(56, 1, 1),
+    figure(57, 1, 1),
+    figure(58, 1, 1),
+    figure(59, 1, 1),
+    figure(60, 4, 200),
+    figure(64, 1, 4),
+    figure(65, 1, 4),
+    figure(66, 1, 4),
+    figure(67, 1, 4),
+    figure(68, 1, 4),
 ];
+
+/// The first byte that no figure has; it and those behind it are 0.
+pub const UNUSED: usize = 69;
 
 /// The figures that joining adds up; runs may be added too.
 const SUMS: usize = 14;
@@ -160,10 +164,19 @@ fn plausible_settings(random: &mut Random, heavy: bool) -> [u8; 5] {
 pub fn bad_account(random: &mut Random) -> Vec<u8> {
     let mut account = good_account(random).to_vec();
     match random.below(10) {
-        0..2 => account.resize(random.pick(&[0, 63, 65, 128]), 0),
-        2..4 => account[41 + random.below(ACCOUNT - 41)] = random.pick(&[1, 255]),
+        0..2 => account.resize(random.pick(&[0, 63, 64, 65, 127, 129, 192]), 0),
+        2..4 => account[UNUSED + random.below(ACCOUNT - UNUSED)] = random.pick(&[1, 255]),
         _ => FIGURES[random.below(FIGURES.len())].write_bad(random, &mut account),
     }
+    account
+}
+
+/// A good account but for one figure, mark, setting, unused byte or its length.
+pub fn probed_account(random: &mut Random) -> Vec<u8> {
+    let mut account = good_account(random).to_vec();
+    let probes = probes();
+    let other_than_0 = random.pick(&[1, 128, 255]);
+    random.pick(&probes).put(&mut account, other_than_0);
     account
 }
 

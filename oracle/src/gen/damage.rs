@@ -65,6 +65,12 @@ impl Span {
         record[self.at..self.at + self.width].copy_from_slice(&bytes[..self.width]);
     }
 
+    pub fn read(&self, record: &[u8]) -> u64 {
+        let mut bytes = [0; 8];
+        bytes[..self.width].copy_from_slice(&record[self.at..self.at + self.width]);
+        u64::from_le_bytes(bytes)
+    }
+
     fn greatest(&self) -> u64 {
         u64::MAX >> (64 - 8 * self.width)
     }

@@ -1,7 +1,7 @@
 //! The mixture of calls that is compared: good, at boundaries, damaged and random.
 
 use super::accounts::{
-    account_of, any_account, bad_account, good_account, pair_at_ceiling, plausible,
+    account_of, any_account, bad_account, good_account, pair_at_ceiling, plausible, probed_account,
 };
 use super::damage::{
     cut_short, damage_order, damage_records, flip_bytes, random_bytes, refused_train, sheet_room,
@@ -106,7 +106,10 @@ fn call(random: &mut Random, inputs: Inputs, rooms: &[usize]) -> Call {
     }
 }
 
-const ACCOUNT_ROOMS: [usize; 10] = [64, 64, 64, 64, 64, 65, 80, 63, 0, 64];
+/// Three of four are long enough.
+const ACCOUNT_ROOMS: [usize; 16] = [
+    128, 128, 128, 128, 128, 128, 128, 128, 128, 129, 129, 160, 127, 64, 63, 0,
+];
 
 /// A call with a portion offered as hauled.
 pub fn portion_call(random: &mut Random) -> Call {
@@ -136,7 +139,10 @@ pub fn portion_call(random: &mut Random) -> Call {
     if !portion.is_empty() && random.percent(30) {
         spoil_some(random, &mut portion);
     }
-    let rooms: &[usize] = if has(5) { &[0, 63] } else { &[64, 64, 65, 80] };
+    let rooms: &[usize] = match has(5) {
+        true => &[0, 63, 64, 127],
+        false => &[128, 128, 129, 160],
+    };
     call(random, Inputs::Portion { portion }, rooms)
 }
 
@@ -153,12 +159,14 @@ fn spoil_some(random: &mut Random, vehicles: &mut Vec<u8>) {
 
 /// A call that joins two accounts of any make.
 pub fn join_call(random: &mut Random) -> Call {
-    let (left, right) = match random.below(10) {
-        0..4 => {
+    let (left, right) = match random.below(20) {
+        0..7 => {
             let (left, right) = pair_at_ceiling(random);
             (left.to_vec(), right.to_vec())
         }
-        4..7 => (good_account(random).to_vec(), good_account(random).to_vec()),
+        7..12 => (good_account(random).to_vec(), good_account(random).to_vec()),
+        12..14 => (probed_account(random), good_account(random).to_vec()),
+        14..16 => (good_account(random).to_vec(), probed_account(random)),
         _ => (any_account(random), any_account(random)),
     };
     call(random, Inputs::Accounts { left, right }, &ACCOUNT_ROOMS)
@@ -180,12 +188,13 @@ pub fn engines_call(random: &mut Random) -> Call {
     if has(4) {
         damage_order(random, &mut order);
     }
-    let hauled = match random.below(10) {
+    let hauled = match random.below(20) {
         _ if has(7) => bad_account(random),
         _ if has(14) => empty_account(random),
-        0..5 => account_of(&draft.hauled).to_vec(),
-        5..8 => plausible(random).write().to_vec(),
-        8 => good_account(random).to_vec(),
+        0..8 => account_of(&draft.hauled).to_vec(),
+        8..14 => plausible(random).write().to_vec(),
+        14..16 => good_account(random).to_vec(),
+        16..19 => probed_account(random),
         _ => any_account(random),
     };
     let inputs = Inputs::Engines {

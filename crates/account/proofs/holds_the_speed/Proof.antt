@@ -1,9 +1,11 @@
--- `account::holds_the_speed` meets its contract. Assumes nothing.
+-- `account::holds_the_speed` meets its contract: each way out is one case of the definition. Assumes nothing.
 use mathlib.Core.Path.{sym, ap₂, _∙_}
 use mathlib.Core.Bool.{_&&_}
 use borrow.Author.Tests.{not-true, not-false}
 use Rattle.account.proofs.Speeds.{speed-bad, speed-many, speed-empty, speed-found}
+use native.Mathlib.Omega.{arith}
 use borrow.Author.Needs.{needs}
+use denote.Ref.{now}
 use Rattle.account.proofs.holds_the_speed.Statement.{statement}
 use Rattle.account.proofs.holds_the_speed.Tie as tie
 
@@ -29,8 +31,8 @@ slice-aggregate-result-2 c = search needs
 
 returns-2 : tie.Need-returns-2
 returns-2 c =
-    let g = c .before .before in
-    speed-many _ _ (sym (ap₂ _&&_ (g .before .before .is-whole-good .ensures) (g .before .is-whole-good2 .ensures)) ∙ not-false _ (g .if1 .left)) (c .before .if2 .taken)
+    let a = c .before .before .before .before .before .before .before .args in
+    speed-many (now (a .front)) (now (a .back)) (omega (arith, c .before .if2 .taken))
 
 slice-aggregate-result-3 : tie.Need-slice-aggregate-result-3
 slice-aggregate-result-3 c = search needs

@@ -1,6 +1,7 @@
 -- `bench::vehicle_part` meets its contract. Assumes nothing.
 use native.Mathlib.Omega.{arith}
 use denote.Ref.{now}
+use lib.ListN.{length}
 use Rattle.bench.proofs.Lines.{vehicles-none, vehicles-behind}
 use borrow.Author.Needs.{needs}
 use Rattle.bench.proofs.vehicle_part.Statement.{statement}
@@ -16,13 +17,7 @@ part-result-end : tie.Need-part-result-end
 part-result-end c = search needs
 
 returns : tie.Need-returns
-returns c = vehicles-none (now (c .before .before .before .args .input)) (omega arith)
-
-lesser-requires : tie.Need-lesser-requires
-lesser-requires c κs = search needs
-
-sub-result-2 : tie.Need-sub-result-2
-sub-result-2 c = search needs
+returns c = vehicles-none (now (c .before .before .args .input)) (omega arith)
 
 part-result-start-2 : tie.Need-part-result-start-2
 part-result-start-2 c = search needs
@@ -31,7 +26,19 @@ part-result-end-2 : tie.Need-part-result-end-2
 part-result-end-2 c = search needs
 
 returns-2 : tie.Need-returns-2
-returns-2 c = vehicles-behind (now (c .before .before .before .before .args .input)) (c .before .lesser .result) (omega arith) (c .before .lesser .ensures)
+returns-2 c = let input = now (c .before .before .before .args .input) in vehicles-behind input (length input) (omega arith) (omega arith)
+
+sub-result-2 : tie.Need-sub-result-2
+sub-result-2 c = search needs
+
+part-result-start-3 : tie.Need-part-result-start-3
+part-result-start-3 c = search needs
+
+part-result-end-3 : tie.Need-part-result-end-3
+part-result-end-3 c = search needs
+
+returns-3 : tie.Need-returns-3
+returns-3 c = vehicles-behind (now (c .before .before .before .args .input)) 4848 (omega arith) (omega arith)
 
 pub vehicle-part-spec : {M : Type 1} → statement M
 vehicle-part-spec =
@@ -41,8 +48,10 @@ vehicle-part-spec =
     part-result-start
     part-result-end
     returns
-    lesser-requires
-    sub-result-2
     part-result-start-2
     part-result-end-2
-    returns-2)
+    returns-2
+    sub-result-2
+    part-result-start-3
+    part-result-end-3
+    returns-3)

@@ -17,8 +17,8 @@ offered-by-requires c κs = search needs
 sheet-of-account-requires : tie.Need-sheet-of-account-requires
 sheet-of-account-requires c κs = search needs
 
-one-number-requires : tie.Need-one-number-requires
-one-number-requires c κs =
+sheet-number-requires : tie.Need-sheet-number-requires
+sheet-number-requires c κs =
     let o = c .before .before .before .before in
     let a = o .before .before .before .before .before .args in
     omega (
@@ -36,7 +36,7 @@ returns c =
     let a = o .before .before .before .before .before .args in
     let l = c .before .before .before .sheet-of-account .ensures in
     let e = o .offered-by .ensures in (
-      c .one-number .ensures
+      c .sheet-number .ensures
           ∙ ap sheetNumber (l .0)
           ∙ ap (λ (h : Account). sheetNumber (accountAnswer (now (a .engines)) h (now (a .order)) (length (now (a .sheet))))) e,
       l .1 ∙ ap (λ (h : Account). accountSheet (now (a .engines)) h (now (a .order)) (now (a .sheet))) e,
@@ -48,6 +48,6 @@ prskavon-sheet-of-account-spec =
     (tie.spec
     offered-by-requires
     sheet-of-account-requires
-    one-number-requires
+    sheet-number-requires
     same-length
     returns)

@@ -13,8 +13,8 @@ use Rattle.exports.proofs.prskavon_sheet_of_train.Tie as tie
 sheet-of-train-requires : tie.Need-sheet-of-train-requires
 sheet-of-train-requires c κs = search needs
 
-one-number-requires : tie.Need-one-number-requires
-one-number-requires c κs =
+sheet-number-requires : tie.Need-sheet-number-requires
+sheet-number-requires c κs =
     let a = c .before .before .before .before .before .before .before .args in
     omega (arith, ap placeOf (c .before .before .sheet-of-train .ensures .0), train-place (now (a .vehicles)) (now (a .order)) (length (now (a .sheet))))
 
@@ -22,8 +22,8 @@ same-length : tie.Need-same-length
 same-length c = search needs
 
 returns : tie.Need-returns
-returns c = (c .one-number .ensures ∙ ap sheetNumber (c .before .before .before .sheet-of-train .ensures .0), c .before .before .before .sheet-of-train .ensures .1)
+returns c = (c .sheet-number .ensures ∙ ap sheetNumber (c .before .before .before .sheet-of-train .ensures .0), c .before .before .before .sheet-of-train .ensures .1)
 
 pub prskavon-sheet-of-train-spec : {M : Type 1} → statement M
 prskavon-sheet-of-train-spec =
-    tie.close (tie.spec sheet-of-train-requires one-number-requires same-length returns)
+    tie.close (tie.spec sheet-of-train-requires sheet-number-requires same-length returns)

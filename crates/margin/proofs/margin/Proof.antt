@@ -1,12 +1,16 @@
 -- `margin::margin` meets its contract: no product is near 2 ^ 63, so the difference is read back as it is. Assumes nothing.
-use mathlib.Core.Path.{sym}
 use native.Mathlib.Omega.{arith}
-use borrow.Author.Needs.{needs}
+use mathlib.Core.Path.{sym}
 use mir.Facts.{toZ-ofZ}
+use borrow.Author.Needs.{needs}
+use Rattle.margin.specs.Margin.{fourfold}
 use Rattle.margin.proofs.Differences.{diff-mag}
 use Rattle.margin.proofs.Margins.{margin-split}
 use Rattle.margin.proofs.margin.Statement.{statement}
 use Rattle.margin.proofs.margin.Tie as tie
+
+four-times-requires : tie.Need-four-times-requires
+four-times-requires c κs = search needs
 
 product-requires : tie.Need-product-requires
 product-requires c κs = search needs
@@ -36,7 +40,8 @@ sub-result c =
 
 returns : tie.Need-returns
 returns c =
-    let a = c .before .before .before .args in
+    let a = c .before .before .before .before .args in
+    let q = c .before .before .before .four-times .ensures .0 in
     rw (
       toZ-ofZ (sub-result c),
       toZ-ofZ (cast-result c),
@@ -44,13 +49,15 @@ returns c =
       c .before .before .product .ensures .0,
       c .before .product2 .ensures .0,
       c .product3 .ensures .0,
+      q,
     )
-    (sym (margin-split (a .q) (a .k) (a .p) (a .t)))
+    (sym (margin-split (fourfold (a .b)) (a .k) (a .p) (a .t)))
 
 pub margin-spec : {M : Type 1} → statement M
 margin-spec =
     tie.close
     (tie.spec
+    four-times-requires
     product-requires
     product-requires-2
     product-requires-3

@@ -1,13 +1,13 @@
--- `margin::product` meets its contract: the greatest product of the two widths fits. Assumes nothing.
+-- `margin::product` meets its contract: the greatest product of the two bounds fits. Assumes nothing.
 use Prim.Native.Nat.{_*_, _≤_}
-use mathlib.Core.Path.{refl}
 use native.Mathlib.Nat.{mul-le-mul}
 use native.Mathlib.Omega.{arith}
+use mathlib.Core.Path.{refl}
 use Rattle.margin.proofs.product.Statement.{statement}
 use Rattle.margin.proofs.product.Tie as tie
 
-most : (c : tie.Start) → c .args .x * c .args .y ≤ 1095216660225
-most c = mul-le-mul {n₂ = 4294967295} {m₂ = 255} (omega arith) (omega arith)
+most : (c : tie.Start) → c .args .x * c .args .y ≤ 12047383262475
+most c = mul-le-mul {n₂ = 47244640245} {m₂ = 255} (omega arith) (omega arith)
 
 mul-result : tie.Need-mul-result
 mul-result c = omega (arith, most c)

@@ -1,7 +1,7 @@
 -- `travel::account_in` meets its contract, figure by figure. Assumes nothing.
-use lib.Dec.{eqb}
-use Rattle.travel.specs.AccountRecords.{accountIn}
-use native.Mathlib.Omega.{arith}
+use denote.Ref.{now}
+use Rattle.record.specs.Words.{_is_}
+use Rattle.travel.specs.AccountRecords.{byteAt, accountIn}
 use borrow.Author.Needs.{needs}
 use Rattle.travel.proofs.account_in.Statement.{statement}
 use Rattle.travel.proofs.account_in.Tie as tie
@@ -9,96 +9,103 @@ use Rattle.travel.proofs.account_in.Tie as tie
 first-in-requires : tie.Need-first-in-requires
 first-in-requires c κs = search needs
 
-small-requires : tie.Need-small-requires
-small-requires c κs = search needs
+figure-requires : tie.Need-figure-requires
+figure-requires c κs = search needs
 
-small-requires-2 : tie.Need-small-requires-2
-small-requires-2 c κs = search needs
+figure-requires-2 : tie.Need-figure-requires-2
+figure-requires-2 c κs = search needs
 
-small-requires-3 : tie.Need-small-requires-3
-small-requires-3 c κs = search needs
+figure-requires-3 : tie.Need-figure-requires-3
+figure-requires-3 c κs = search needs
 
-small-requires-4 : tie.Need-small-requires-4
-small-requires-4 c κs = search needs
+figure-requires-4 : tie.Need-figure-requires-4
+figure-requires-4 c κs = search needs
 
-small-requires-5 : tie.Need-small-requires-5
-small-requires-5 c κs = search needs
+figure-requires-5 : tie.Need-figure-requires-5
+figure-requires-5 c κs = search needs
 
-small-requires-6 : tie.Need-small-requires-6
-small-requires-6 c κs = search needs
+figure-requires-6 : tie.Need-figure-requires-6
+figure-requires-6 c κs = search needs
 
-small-requires-7 : tie.Need-small-requires-7
-small-requires-7 c κs = search needs
+figure-requires-7 : tie.Need-figure-requires-7
+figure-requires-7 c κs = search needs
 
-small-requires-8 : tie.Need-small-requires-8
-small-requires-8 c κs = search needs
+figure-requires-8 : tie.Need-figure-requires-8
+figure-requires-8 c κs = search needs
 
-small-requires-9 : tie.Need-small-requires-9
-small-requires-9 c κs = search needs
+figure-requires-9 : tie.Need-figure-requires-9
+figure-requires-9 c κs = search needs
 
-small-requires-10 : tie.Need-small-requires-10
-small-requires-10 c κs = search needs
+figure-requires-10 : tie.Need-figure-requires-10
+figure-requires-10 c κs = search needs
 
-small-requires-11 : tie.Need-small-requires-11
-small-requires-11 c κs = search needs
+figure-requires-11 : tie.Need-figure-requires-11
+figure-requires-11 c κs = search needs
 
-small-requires-12 : tie.Need-small-requires-12
-small-requires-12 c κs = search needs
+figure-requires-12 : tie.Need-figure-requires-12
+figure-requires-12 c κs = search needs
 
-small-requires-13 : tie.Need-small-requires-13
-small-requires-13 c κs = search needs
+figure-requires-13 : tie.Need-figure-requires-13
+figure-requires-13 c κs = search needs
 
-small-requires-14 : tie.Need-small-requires-14
-small-requires-14 c κs = search needs
+figure-requires-14 : tie.Need-figure-requires-14
+figure-requires-14 c κs = search needs
 
-small-requires-15 : tie.Need-small-requires-15
-small-requires-15 c κs = search needs
+shared-slice-read-t18 : tie.Need-shared-slice-read-t18
+shared-slice-read-t18 c = search needs
 
-small-requires-16 : tie.Need-small-requires-16
-small-requires-16 c κs =
-    let s = c .before .before .before .before .before .before .before .before .before .before .before .before .before .before .before .before .before in
-    (omega (arith, s .pre), omega arith)
+shared-slice-read-t21 : tie.Need-shared-slice-read-t21
+shared-slice-read-t21 c = search needs
 
-small-requires-17 : tie.Need-small-requires-17
-small-requires-17 c κs =
-    let s = c .before .before .before .before .before .before .before .before .before .before .before .before .before .before .before .before .before .before in
-    (omega (arith, s .pre), omega arith)
+shared-slice-read-t24 : tie.Need-shared-slice-read-t24
+shared-slice-read-t24 c = search needs
 
-small-requires-18 : tie.Need-small-requires-18
-small-requires-18 c κs =
-    let s = c .before .before .before .before .before .before .before .before .before .before .before .before .before .before .before .before .before .before .before in
-    (omega (arith, s .pre), omega arith)
+shared-slice-read-t27 : tie.Need-shared-slice-read-t27
+shared-slice-read-t27 c = search needs
 
-small-requires-19 : tie.Need-small-requires-19
-small-requires-19 c κs =
-    let s = c .before .before .before .before .before .before .before .before .before .before .before .before .before .before .before .before .before .before .before .before in
-    (omega (arith, s .pre), omega arith)
+figure-requires-15 : tie.Need-figure-requires-15
+figure-requires-15 c κs = search needs
 
 returns : tie.Need-returns
 unfolding accountIn
 returns c =
+    let f14 = c .before .before .before .before .before in
+    let f13 = f14 .before in
+    let f12 = f13 .before in
+    let f11 = f12 .before in
+    let f10 = f11 .before in
+    let f9 = f10 .before in
+    let f8 = f9 .before in
+    let f7 = f8 .before in
+    let f6 = f7 .before in
+    let f5 = f6 .before in
+    let f4 = f5 .before in
+    let f3 = f4 .before in
+    let f2 = f3 .before in
+    let f1 = f2 .before in
+    let bs = now (f1 .before .before .before .args .bytes) in
     λ i.
     record {
-      count = c .before .before .before .before .before .before .before .before .before .before .before .before .before .before .before .before .before .before .small .ensures i;
-      mass = c .before .before .before .before .before .before .before .before .before .before .before .before .before .before .before .before .before .small2 .ensures i;
-      vmass = c .before .before .before .before .before .before .before .before .before .before .before .before .before .before .before .before .small3 .ensures i;
-      mmass = c .before .before .before .before .before .before .before .before .before .before .before .before .before .before .before .small4 .ensures i;
-      length = c .before .before .before .before .before .before .before .before .before .before .before .before .before .before .small5 .ensures i;
-      axles = c .before .before .before .before .before .before .before .before .before .before .before .before .before .small6 .ensures i;
-      vaxles = c .before .before .before .before .before .before .before .before .before .before .before .before .small7 .ensures i;
-      engines = c .before .before .before .before .before .before .before .before .before .before .before .small8 .ensures i;
-      mset = c .before .before .before .before .before .before .before .before .before .before .small9 .ensures i;
-      isolated = c .before .before .before .before .before .before .before .before .before .small10 .ensures i;
-      dloads = c .before .before .before .before .before .before .before .before .small11 .ensures i;
-      leading = c .before .before .before .before .before .before .before .small12 .ensures i;
-      trailing = c .before .before .before .before .before .before .small13 .ensures i;
-      longest = c .before .before .before .before .before .small14 .ensures i;
-      behind = eqb (c .before .before .before .before .small15 .ensures i) 1;
-      rule16 = eqb (c .before .before .before .small16 .ensures i) 1;
-      rule17 = eqb (c .before .before .small17 .ensures i) 1;
-      rule18 = eqb (c .before .small18 .ensures i) 1;
-      slowest = c .small19 .ensures i;
-      first = c .before .before .before .before .before .before .before .before .before .before .before .before .before .before .before .before .before .before .before .first-in .ensures i;
+      count = f1 .figure .ensures i;
+      mass = f2 .figure2 .ensures i;
+      vmass = f3 .figure3 .ensures i;
+      mmass = f4 .figure4 .ensures i;
+      length = f5 .figure5 .ensures i;
+      axles = f6 .figure6 .ensures i;
+      vaxles = f7 .figure7 .ensures i;
+      engines = f8 .figure8 .ensures i;
+      mset = f9 .figure9 .ensures i;
+      isolated = f10 .figure10 .ensures i;
+      dloads = f11 .figure11 .ensures i;
+      leading = f12 .figure12 .ensures i;
+      trailing = f13 .figure13 .ensures i;
+      longest = f14 .figure14 .ensures i;
+      behind = byteAt 56 bs is 1;
+      rule16 = byteAt 57 bs is 1;
+      rule17 = byteAt 58 bs is 1;
+      rule18 = byteAt 59 bs is 1;
+      slowest = c .figure15 .ensures i;
+      first = f1 .before .first-in .ensures i;
     }
 
 pub account-in-spec : {M : Type 1} → statement M
@@ -106,23 +113,23 @@ account-in-spec =
     tie.close
     (tie.spec
     first-in-requires
-    small-requires
-    small-requires-2
-    small-requires-3
-    small-requires-4
-    small-requires-5
-    small-requires-6
-    small-requires-7
-    small-requires-8
-    small-requires-9
-    small-requires-10
-    small-requires-11
-    small-requires-12
-    small-requires-13
-    small-requires-14
-    small-requires-15
-    small-requires-16
-    small-requires-17
-    small-requires-18
-    small-requires-19
+    figure-requires
+    figure-requires-2
+    figure-requires-3
+    figure-requires-4
+    figure-requires-5
+    figure-requires-6
+    figure-requires-7
+    figure-requires-8
+    figure-requires-9
+    figure-requires-10
+    figure-requires-11
+    figure-requires-12
+    figure-requires-13
+    figure-requires-14
+    shared-slice-read-t18
+    shared-slice-read-t21
+    shared-slice-read-t24
+    shared-slice-read-t27
+    figure-requires-15
     returns)

@@ -1,15 +1,17 @@
 -- `vectors::main` is safe and ends: it answers no more inputs than the loop counts. Assumes nothing.
 use Prim.Native.Nat.{_≤_, _-_}
-use native.Mathlib.Omega.{arith}
 use borrow.Author.Needs.{needs}
 use Rattle.vectors.proofs.main.Statement.{statement}
 use Rattle.vectors.proofs.main.Tie as tie
 
 abbrev Inv-loop : tie.InvT-loop
-Inv-loop buffer₀ counter₀ buffer counter = counter ≤ 65536
+Inv-loop terminal buffer₀ counter₀ buffer counter = counter ≤ 18446744073709551615
 
 abbrev μ-loop : tie.MeasureT-loop
-μ-loop buffer₀ counter₀ buffer counter = 65536 - counter
+μ-loop terminal buffer₀ counter₀ buffer counter = 18446744073709551615 - counter
+
+isatty-requires : tie.Need-isatty-requires Inv-loop μ-loop
+isatty-requires c κs = search needs
 
 large-buffer-requires : tie.Need-large-buffer-requires Inv-loop μ-loop
 large-buffer-requires c κs = search needs
@@ -44,6 +46,7 @@ main-spec =
     (tie.spec
     Inv-loop
     μ-loop
+    isatty-requires
     large-buffer-requires
     slice-aggregate-buffer
     loop-holds

@@ -17,13 +17,22 @@ array-share-prefix-line c = front-fits (now (c .before .before .before .args .in
 slice-aggregate-write-all : tie.Need-slice-aggregate-write-all
 slice-aggregate-write-all c =
     let f = c .before .line-of in
-    sym (length-take-le (f .result) (f .last .1 .0) (front-fits (now (c .before .before .before .before .args .input)) (replicate 128 0) (f .ensures .0) (f .ensures .1)))
+    sym (length-take-le (f .result) (f .last .1 .0) (array-share-prefix-line (c .before)))
 
 write-all-requires : tie.Need-write-all-requires
 write-all-requires c κs = search needs
 
+slice-aggregate-fail : tie.Need-slice-aggregate-fail
+slice-aggregate-fail c = search needs
+
+fail-requires : tie.Need-fail-requires
+fail-requires c κs = search needs
+
 returns : tie.Need-returns
 returns c = search needs
+
+returns-2 : tie.Need-returns-2
+returns-2 c = search needs
 
 pub write-line-spec : {M : Type 1} → statement M
 write-line-spec =
@@ -33,4 +42,7 @@ write-line-spec =
     array-share-prefix-line
     slice-aggregate-write-all
     write-all-requires
-    returns)
+    slice-aggregate-fail
+    fail-requires
+    returns
+    returns-2)

@@ -6,15 +6,15 @@ use mathlib.Core.List.{List}
 use lib.Dec.{ltb}
 use lib.ListN.{length, getD}
 use denote.Ref.{now}
-use Rattle.record.specs.Records.{recordCount, recordsOf}
-use Rattle.record.specs.Vehicles.{vehicles, isJoined, isR}
-use Rattle.record.proofs.Records.{length-records}
+use Rattle.record.specs.Records.{recordCount}
+use Rattle.record.specs.Vehicles.{vehicles, isHauledEngine, isIsolated, isJoined, isR}
 use Rattle.account.specs.Accounts.{accountOf}
-use Rattle.account.specs.Gathering.{runningOf, hasByte}
+use Rattle.account.specs.Gathering.{runningOf}
 use Rattle.account.specs.declared.gather.Running.{Running}
-use Rattle.account.proofs.Lists.{leading-le, some-count, lack-count}
+use Rattle.record.proofs.Vehicles.{length-vehicles}
+use Rattle.record.proofs.Figures.{leading-le, some-count, lack-count}
 use Rattle.account.proofs.Joins.{each-hauled}
-use Rattle.account.proofs.Gathers.{leading-isolated, leading-engines, behind-ahead, length-before}
+use Rattle.account.proofs.Gathers.{behind-ahead}
 use borrow.Author.Needs.{needs}
 use Rattle.account.proofs.gather.account_from.Statement.{statement}
 use Rattle.account.proofs.gather.account_from.Tie as tie
@@ -22,21 +22,21 @@ use Rattle.account.proofs.gather.account_from.Tie as tie
 cast-count : tie.Need-cast-count
 cast-count c = search needs
 
-leading-with-requires : tie.Need-leading-with-requires
-leading-with-requires c κs = search needs
+leading-isolated-requires : tie.Need-leading-isolated-requires
+leading-isolated-requires c κs = search needs
 
 cast-leading : tie.Need-cast-leading
 cast-leading c =
     let bs = now (c .before .before .args .portion) in
-    omega (arith, c .before .before .pre .0, c .leading-with .ensures, leading-le (hasByte 18 0) (recordsOf bs), length-records (recordCount bs) bs)
+    omega (arith, c .before .before .pre .0, c .leading-isolated .ensures, leading-le isIsolated (vehicles bs), length-vehicles (recordCount bs) bs)
 
-leading-with-requires-2 : tie.Need-leading-with-requires-2
-leading-with-requires-2 c κs = search needs
+leading-engines-requires : tie.Need-leading-engines-requires
+leading-engines-requires c κs = search needs
 
 cast-engines-ahead : tie.Need-cast-engines-ahead
 cast-engines-ahead c =
     let bs = now (c .before .before .before .args .portion) in
-    omega (arith, c .before .before .before .pre .0, c .leading-with2 .ensures, leading-le (hasByte 17 1) (recordsOf bs), length-records (recordCount bs) bs)
+    omega (arith, c .before .before .before .pre .0, c .leading-engines .ensures, leading-le isHauledEngine (vehicles bs), length-vehicles (recordCount bs) bs)
 
 array-read-t19 : tie.Need-array-read-t19
 array-read-t19 c = search needs
@@ -62,7 +62,7 @@ returns c =
     let s = c .before .before .before .before .before in
     let bs = now (s .args .portion) in
     let g = s .pre .1 in
-    let n : recordCount bs ≡ length (vehicles bs) = sym (length-before bs (recordCount bs)) in
+    let n : recordCount bs ≡ length (vehicles bs) = sym (length-vehicles (recordCount bs) bs) in
     λ i.
     record {
       count = n i;
@@ -76,11 +76,11 @@ returns c =
       mset = getD (g .count i) 1 0;
       isolated = getD (g .count i) 0 0;
       dloads = g .running i .dloads;
-      leading = (c .before .before .before .leading-with .ensures ∙ sym (leading-isolated (recordsOf bs))) i;
+      leading = c .before .before .before .leading-isolated .ensures i;
       trailing = g .running i .trailing;
       longest = g .running i .longest;
       behind =
-          (ap₂ ltb (c .before .before .leading-with2 .ensures ∙ sym (leading-engines (recordsOf bs))) (ap (λ (a : Running). a .engines) (g .running))
+          (ap₂ ltb (c .before .before .leading-engines .ensures) (ap (λ (a : Running). a .engines) (g .running))
           ∙ sym (behind-ahead (vehicles bs) (each-hauled (vehicles bs) (g .each)))) i;
       rule16 = (ap (λ (l : List ℕ). ltb 0 (getD l 3 0)) (g .count) ∙ sym (some-count isR (vehicles bs))) i;
       rule17 = (ap₂ ltb (ap (λ (a : Running). a .joined) (g .running)) n ∙ sym (lack-count isJoined (vehicles bs))) i;
@@ -94,9 +94,9 @@ account-from-spec =
     tie.close
     (tie.spec
     cast-count
-    leading-with-requires
+    leading-isolated-requires
     cast-leading
-    leading-with-requires-2
+    leading-engines-requires
     cast-engines-ahead
     array-read-t19
     array-read-t22

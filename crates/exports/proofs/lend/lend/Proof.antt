@@ -6,18 +6,18 @@ use borrow.Author.Needs.{needs}
 use Rattle.exports.proofs.lend.lend.Statement.{statement}
 use Rattle.exports.proofs.lend.lend.Tie as tie
 
-one-number-requires : tie.Need-one-number-requires
-one-number-requires c κs = search needs
+account-number-requires : tie.Need-account-number-requires
+account-number-requires c κs = search needs
 
 returns : tie.Need-returns
 returns c =
     let s = c .before .before .before in
-    lent-refused (s .args .given) (now (s .args .room)) _ (c .before .one-number .ensures) (c .if1 .taken)
+    lent-refused (s .args .given) (now (s .args .room)) _ (c .before .account-number .ensures) (c .if1 .taken)
 
 returns-2 : tie.Need-returns-2
 returns-2 c =
     let s = c .before .before .before .before in
-    lent-short (s .args .given) (now (s .args .room)) _ (c .before .before .one-number .ensures) (c .before .if1 .left) (c .if2 .taken)
+    lent-short (s .args .given) (now (s .args .room)) _ (c .before .before .account-number .ensures) (c .before .if1 .left) (c .if2 .taken)
 
 record-of-requires : tie.Need-record-of-requires
 record-of-requires c κs = search needs
@@ -35,14 +35,14 @@ returns-3 : tie.Need-returns-3
 returns-3 c =
     let d = c .before .before .before .before .before .before .before in
     let s = d .before .before .before .before in
-    let e = lent-done (s .args .given) (now (s .args .room)) _ (d .before .before .one-number .ensures) (d .before .if1 .left) (d .if2 .left) in
+    let e = lent-done (s .args .given) (now (s .args .room)) _ (d .before .before .account-number .ensures) (d .before .if1 .left) (d .if2 .left) in
     (e .0, c .before .before .copy .ensures .1 ∙ copied (now (s .args .room)) (c .before .before .before .before .before .record-of .ensures) ∙ e .1)
 
 pub lend-spec : {M : Type 1} → statement M
 lend-spec =
     tie.close
     (tie.spec
-    one-number-requires
+    account-number-requires
     returns
     returns-2
     record-of-requires

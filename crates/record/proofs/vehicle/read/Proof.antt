@@ -9,7 +9,7 @@ use Rattle.record.proofs.vehicle.read.Statement.{statement}
 use Rattle.record.proofs.vehicle.read.Tie as tie
 
 returns : tie.Need-returns
-returns c = reading-bad _ (length-bad _ (c .if1 .taken))
+returns c = reading-bad _ (length-bad (now (c .before .before .args .bytes)) (λ e. omega (arith, c .if1 .taken)))
 
 first-bad-requires : tie.Need-first-bad-requires
 first-bad-requires c κs = search needs

@@ -1,0 +1,24 @@
+-- `exports::sheet_number` meets its contract: a number is at most 14. Assumes nothing.
+use native.Mathlib.Omega.{arith}
+use Rattle.exports.proofs.Lent.{number-small}
+use borrow.Author.Needs.{needs}
+use Rattle.exports.proofs.sheet_number.Statement.{statement}
+use Rattle.exports.proofs.sheet_number.Tie as tie
+
+number-of-requires : tie.Need-number-of-requires
+number-of-requires c κs = search needs
+
+place-of-requires : tie.Need-place-of-requires
+place-of-requires c κs = search needs
+
+one-number-requires : tie.Need-one-number-requires
+one-number-requires c κs =
+    let s = c .before .before in
+    (omega (arith, c .before .number-of .ensures, number-small (s .args .answer)), omega (arith, c .place-of .ensures, s .pre))
+
+returns : tie.Need-returns
+returns c = search needs
+
+pub sheet-number-spec : {M : Type 1} → statement M
+sheet-number-spec =
+    tie.close (tie.spec number-of-requires place-of-requires one-number-requires returns)

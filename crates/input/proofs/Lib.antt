@@ -1,0 +1,4 @@
+pub mod Wholes
+pub mod Demands
+pub mod Inputs
+pub mod Unique

@@ -1,0 +1,113 @@
+-- Demand 2, as far as rules and granting go: the theorems, over the definitions of specs/, of any sound rule book. Assumes nothing.
+use Prim.Native.Nat.{ℕ, _≤_, _<_}
+use native.Mathlib.Omega.{arith}
+use mathlib.Core.Path.{_≡_, refl}
+use mathlib.Core.Bool.{false, not, _&&_, cond}
+use mathlib.Core.List.{List, [], _∷_, _++_, map}
+use lib.IntN.{pos}
+use lib.Signed.{ltZ}
+use Rattle.record.specs.Words.{_above_, _atMost_, Every, caseAt, First}
+use Rattle.record.proofs.Cases.{first-applies, none-applies}
+use Rattle.facts.specs.declared.Facts.{Facts}
+use Rattle.order.specs.declared.Order.{Order}
+use Rattle.rules.specs.Categories.{speedOf}
+use Rattle.rules.specs.Brakes.{begunOf, marginFor}
+use Rattle.rules.specs.Rules.{Rule, rule, firstBroken, numbersOf, termsOf}
+use Rattle.rules.specs.Books.{RuleBook, rulesOf, brokenBy, Sound}
+use Rattle.rules.specs.CrossBorder.{ownRules, crossBorder}
+use Rattle.rules.specs.Grants.{offerOf, bestOf, grantedOf, decisionOf, offersFrom, MayBeGranted, Among, Offered}
+use Rattle.rules.specs.declared.category.Category.{Category}
+use Rattle.rules.specs.declared.rule.Terms.{Terms}
+use Rattle.rules.proofs.Grants.{none-exactly}
+use Rattle.rules.proofs.Offers.{may-offered, offered-may, is-granted}
+use Rattle.rules.proofs.Rules as laws
+use Rattle.rules.proofs.Rules.{first-some, zero-none}
+
+-- ---- the five categories, column by column of document 01's table
+pub category-table :
+    (map (λ (c : Category). c .number) (crossBorder .rows) ≡ 1 ∷ 2 ∷ 3 ∷ 4 ∷ 5 ∷ [])
+    × (map (λ (c : Category). c .speed) (crossBorder .rows) ≡ 120 ∷ 100 ∷ 100 ∷ 100 ∷ 90 ∷ [])
+    × (map (λ (c : Category). c .percentage) (crossBorder .rows) ≡ 77 ∷ 60 ∷ 60 ∷ 57 ∷ 50 ∷ [])
+    × (map (λ (c : Category). c .column) (crossBorder .rows) ≡ 0 ∷ 1 ∷ 2 ∷ 2 ∷ 3 ∷ [])
+unfolding crossBorder
+category-table = (refl, refl, refl, refl)
+
+-- ---- the rules, in the order they are asked
+-- the numbers of the common rules, and of a category's whole list
+pub rule-numbers : (t : Terms) (f : Facts)
+    → (numbersOf (crossBorder .common f) ≡ 15 ∷ 16 ∷ 17 ∷ 18 ∷ 19 ∷ 20 ∷ 21 ∷ 22 ∷ 23 ∷ [])
+    × (numbersOf (crossBorder .rules t f) ≡ 15 ∷ 16 ∷ 17 ∷ 18 ∷ 19 ∷ 20 ∷ 21 ∷ 22 ∷ 23 ∷ 30 ∷ 31 ∷ 32 ∷ 33 ∷ 34 ∷ 35 ∷ 40 ∷ 41 ∷ 42 ∷ 43 ∷ 44 ∷ 46 ∷ 47 ∷ [])
+unfolding crossBorder
+rule-numbers t f = (refl, refl)
+
+-- so no number is 0, and the categories' numbers rise from 1 to 5
+pub cross-border-sound : Sound crossBorder
+unfolding crossBorder
+cross-border-sound = record { numbered = λ t f. omega arith; rising = omega arith }
+
+-- the last is broken exactly when the margin is below zero
+pub rule-47 : (c : Category) (f : Facts) (o : Order) → caseAt 0 (rulesOf crossBorder c f o) 21 ≡ rule 47 (ltZ (marginFor c f o) (pos 0))
+unfolding crossBorder termsOf
+rule-47 c f o = refl
+
+-- 46, which 22 always comes before, asks for more than 10 begun 20 m in 1 to 3
+pub rule-46 : (c : Category) (f : Facts) (o : Order) → caseAt 0 (rulesOf crossBorder c f o) 20 ≡ rule 46 (not (c .isg) && begunOf (f .hauledLength) above 10)
+unfolding crossBorder termsOf
+rule-46 c f o = refl
+
+-- a rule's number is given exactly when it is broken and no earlier one is
+pub rule-first : (rules : List Rule) (p : First 0 rules) → firstBroken rules ≡ caseAt 0 rules (p .place) .gives
+rule-first rules p = first-applies 0 rules (p .place) (p .within) (p .applies) (p .earlier)
+
+pub no-rule : (rules : List Rule) → Every (λ r. r .applies ≡ false) rules → firstBroken rules ≡ 0
+no-rule = none-applies 0
+
+-- of rules up to a number, and then others, the first broken of the former is the first of all where that is at most the number
+pub first-up-to : (m : ℕ) (rules others : List Rule) → Every (λ r. r .gives ≤ m) rules → Every (λ r. m < r .gives) others
+    → cond (firstBroken (rules ++ others) atMost m) (firstBroken (rules ++ others)) 0 ≡ firstBroken rules
+first-up-to = laws.first-up-to
+
+-- all categories hold the common rule where there is one
+pub common-in-all : (c : Category) (f : Facts) (o : Order) → (firstBroken (crossBorder .common f) ≡ 0 → ⊥) → brokenBy crossBorder c f o ≡ firstBroken (crossBorder .common f)
+unfolding brokenBy crossBorder
+common-in-all c f o h = first-some (crossBorder .common f) (ownRules (termsOf c f o) f) h
+
+module _ (b : RuleBook) (f : Facts) (o : Order) where
+  -- what a category breaks is the first rule broken of its list
+  pub first-rule : (c : Category) (p : First 0 (rulesOf b c f o)) → brokenBy b c f o ≡ caseAt 0 (rulesOf b c f o) (p .place) .gives
+  unfolding brokenBy
+  first-rule c p = rule-first (rulesOf b c f o) p
+
+  module _ (sound : Sound b) where
+    -- and 0 exactly when none of its list is broken
+    pub zero-exactly : (c : Category)
+        → (brokenBy b c f o ≡ 0 → Every (λ r. r .applies ≡ false) (rulesOf b c f o))
+        × (Every (λ r. r .applies ≡ false) (rulesOf b c f o) → brokenBy b c f o ≡ 0)
+    unfolding brokenBy
+    zero-exactly c = (zero-none (rulesOf b c f o) (sound .numbered (termsOf c f o) f), no-rule (rulesOf b c f o))
+
+    -- ---- granting
+    -- no category is granted exactly when every one from the asked on breaks a rule
+    pub none-granted : grantedOf b f o .number ≡ 0 → (c : Category) → Among c (b .rows) → MayBeGranted b f o c → ⊥
+    none-granted e c a m = is-granted b f o (sound .rising) .none e (c .number) (speedOf c f o) (may-offered b f o (b .rows) c a m)
+
+    pub all-broken : ((c : Category) → Among c (b .rows) → MayBeGranted b f o c → ⊥) → grantedOf b f o .number ≡ 0
+    all-broken h =
+        none-exactly (o .asked) _ (grantedOf b f o) (is-granted b f o (sound .rising))
+        (λ n s w. let x = offered-may b f o n s w in h (x .category) (x .among) (x .may))
+
+    -- the one granted is the asked or a greater one that breaks no rule, at its own speed
+    pub granted-stands : 0 < grantedOf b f o .number → Offered b f o (grantedOf b f o .number) (grantedOf b f o .speed)
+    granted-stands p = offered-may b f o (grantedOf b f o .number) (grantedOf b f o .speed) (is-granted b f o (sound .rising) .one p)
+
+    -- none that may be granted is faster, and none as fast has a lower number
+    pub granted-is-fastest : (c : Category) → Among c (b .rows) → MayBeGranted b f o c → speedOf c f o ≤ grantedOf b f o .speed
+    granted-is-fastest c a m = is-granted b f o (sound .rising) .fastest (c .number) (speedOf c f o) (may-offered b f o (b .rows) c a m)
+
+    pub lowest-at-a-tie : (c : Category) → Among c (b .rows) → MayBeGranted b f o c → speedOf c f o ≡ grantedOf b f o .speed → grantedOf b f o .number ≤ c .number
+    lowest-at-a-tie c a m e = is-granted b f o (sound .rising) .lowest (c .number) (speedOf c f o) (may-offered b f o (b .rows) c a m) e
+
+-- what is granted is the best of the numbers and speeds that are decided
+pub granted-of-decided : (f : Facts) (o : Order) → bestOf (o .asked) (offersFrom 1 (decisionOf crossBorder f o .broken) (decisionOf crossBorder f o .speeds)) ≡ grantedOf crossBorder f o
+unfolding decisionOf grantedOf offerOf crossBorder
+granted-of-decided f o = refl

@@ -1,0 +1,39 @@
+-- Document 01, "Braked mass and margin", over the facts of a train.
+use Prim.Native.Nat.{ℕ, _+_, _-_, _/_, min}
+use mathlib.Core.Bool.{Bool}
+use lib.IntN.{ℤ, pos}
+use lib.Signed.{ltZ}
+use Rattle.margin.specs.Margin.{fourfold, marginOf, leftOf}
+use Rattle.margin.specs.declared.Braked.{Braked}
+use Rattle.facts.specs.declared.Facts.{Facts}
+use Rattle.order.specs.declared.Order.{Order}
+use Rattle.rules.specs.Categories.{percentageOf}
+use Rattle.rules.specs.declared.category.Category.{Category}
+use Rattle.rules.specs.declared.category.Weigh.{Weigh}
+use Rattle.rules.specs.declared.category.Weigh.the-variants.{ThreeQuarters, Whole}
+
+-- the parts of Q: a record set to V its V mass; one set to M three quarters of its M mass in 1 to 3 (note 8), the whole in 4 and 5
+abbrev pub partsOf : Weigh → Facts → Braked
+partsOf ThreeQuarters f = record { set = f .vmass; whole = 0; reduced = f .mmass }
+partsOf Whole f = record { set = f .vmass; whole = f .mmass; reduced = 0 }
+
+-- the begun 20 m by which the hauled part passes 500 m (note 7)
+abbrev pub begunOf : ℕ → ℕ
+begunOf length = (length - 5000 + 199) / 200
+
+-- k: the begun 20 m, at most 10, in 1 to 3; nothing is deducted in 4 and 5
+abbrev pub deductionOf : Weigh → Facts → ℕ
+deductionOf ThreeQuarters f = min 10 (begunOf (f .hauledLength))
+deductionOf Whole f = 0
+
+-- the exact margin, in 4,000ths of a tonne
+unfoldable pub marginFor : Category → Facts → Order → ℤ
+marginFor c f o = marginOf (fourfold (partsOf (c .weigh) f)) (deductionOf (c .weigh) f) (percentageOf c f o) (f .trainMass)
+
+-- 47: broken exactly when it is below zero
+abbrev pub isShort : Category → Facts → Order → Bool
+isShort c f o = ltZ (marginFor c f o) (pos 0)
+
+-- braked mass after deduction, in tenths rounded down
+unfoldable pub brakedOf : Category → Facts → ℕ
+brakedOf c f = leftOf (fourfold (partsOf (c .weigh) f)) (deductionOf (c .weigh) f)

@@ -1,0 +1,36 @@
+-- Document 01, "The five categories": what a category's row gives, the column's fallback to the right (000, article 1502), the percentage.
+use Prim.Native.Nat.{ℕ, min, max}
+use mathlib.Core.Bool.{false, cond}
+use mathlib.Core.List.{List, [], _∷_}
+use lib.ListN.{drop}
+use Rattle.record.specs.Words.{_is_}
+use Rattle.facts.specs.declared.Facts.{Facts}
+use Rattle.order.specs.declared.Order.{Order}
+use Rattle.rules.specs.declared.category.Category.{Category}
+use Rattle.rules.specs.declared.category.Weigh.the-variants.{Whole}
+
+-- the first limit that is not missing, or 0
+abbrev pub firstPresent : List ℕ → ℕ
+firstPresent [] = 0
+firstPresent (limit ∷ limits) = cond (limit is 0) (firstPresent limits) limit
+
+-- the line's: the category's column, or the first not missing to the right
+unfoldable pub lineSpeed : Category → Order → ℕ
+lineSpeed c o = firstPresent (drop (c .column) (o .limits))
+
+-- the least of its own, the line's and the slowest record's
+unfoldable pub speedOf : Category → Facts → Order → ℕ
+speedOf c f o = min (c .speed) (min (lineSpeed c o) (f .slowest))
+
+-- p is the greater of the table's, here the same for every train, and byte 6
+abbrev pub percentageOf : Category → Facts → Order → ℕ
+percentageOf c f o = max (c .percentage) (o .german)
+
+-- for a number that no category has
+abbrev pub none : Category
+none = record { number = 0; speed = 0; percentage = 0; column = 0; isg = false; weigh = Whole }
+
+-- the category of a number
+abbrev pub categoryOf : ℕ → List Category → Category
+categoryOf n [] = none
+categoryOf n (c ∷ rows) = cond (n is c .number) c (categoryOf n rows)

@@ -1,0 +1,8 @@
+pub mod Categories
+pub mod Brakes
+pub mod Rules
+pub mod Books
+pub mod Families
+pub mod CrossBorder
+pub mod Grants
+pub mod Limits

@@ -1,0 +1,4 @@
+pub mod Sheets
+pub mod Cases
+pub mod Demands
+pub mod Unique
