@@ -69,7 +69,7 @@ refused-unwritten answer bytes sheet e = rw e
 pub done-written : (bytes sheet : List ℕ) → written Done bytes sheet ≡ bytes ++ drop sheetLength sheet
 done-written bytes sheet = refl
 
-pub thirty-two : (f : Facts) (o : Order) → length (sheetFor f o) ≡ sheetLength
+pub thirty-two : (f : Facts) (o : Order) → length (sheetFor f o) ≡ 32
 thirty-two = sheet-long
 
 -- so of a whole train, and of engines with an account

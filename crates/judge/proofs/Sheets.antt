@@ -76,7 +76,7 @@ module _ (total a b s : Answer) (groups : total ≡ orElse a (orElse b s)) (byte
 -- ---- the sheet's bytes, laid over the lent ones
 pub sheet-long : (f : Facts) (o : Order) → length (sheetFor f o) ≡ sheetLength
 unfolding sheetFor
-sheet-long = thirty-two
+sheet-long f o = thirty-two f o .1
 
 pub laid : (line bytes sheet : List ℕ) → line ≡ bytes → length bytes ≡ sheetLength → take (length line) line ++ drop (length line) sheet ≡ bytes ++ drop sheetLength sheet
 laid line bytes sheet e l = ap₂ _++_ (take-all (length line) line (omega arith) ∙ e) (ap (λ (n : ℕ). drop n sheet) (ap length e ∙ l))

@@ -20,9 +20,10 @@ use Rattle.rules.specs.Grants.{grantedOf, decisionOf}
 use Rattle.sheets.specs.Sheets.{sheetLength, askedOf, figuresOf, sheetOf}
 use Rattle.sheets.proofs.Sheets.{reached}
 
-pub thirty-two : (f : Facts) (o : Order) → length (sheetOf crossBorder f o) ≡ sheetLength
+-- the named length is the page's, and the sheet has it
+pub thirty-two : (f : Facts) (o : Order) → (sheetLength ≡ 32) × (length (sheetOf crossBorder f o) ≡ 32)
 unfolding figuresOf decisionOf crossBorder
-thirty-two f o = refl
+thirty-two f o = (refl, refl)
 
 module _ (f : Facts) (o : Order) where
   -- bytes 4 to 8: the first rule broken by each category, or 0
