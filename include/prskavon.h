@@ -1,4 +1,4 @@
-/* Prskavon: the brake sheet of a freight train between France and Germany.
+/* Prskavon: the brake sheet of a freight train between France and Germany, and its category for a route.
  *
  * Build the archive with `rt staticlib exports` and link it: cc -I include program.c target/staticlib/libexports.a
  * (x86-64 Linux; of the C library it needs memcpy alone). Every function takes any bytes and always returns. There is no state and no
@@ -7,18 +7,22 @@
  * BUFFERS
  * - A buffer is a pointer and its length in bytes. The pointer is never NULL, not even where the length is 0.
  * - A buffer that is read may be lent twice in one call. A buffer that is written overlaps no other of the call.
- * - A done call writes the first 32, 128 or 24 bytes named below and no other, and the buffer may be longer. A refused
- *   call writes nothing: what the buffer held before is no sheet and no account.
+ * - A done call writes the first 32, 128 or 24 bytes named below, of a route as many as it has sections, and no other, and
+ *   the buffer may be longer. A refused call writes nothing: what the buffer held before is no sheet, account or speed.
  *
- * ANSWERS: number + 256 * place. The place counts records from 0, and is 0 save for number 3; with engines lent apart it
- * is among the engines. (prskavon_holds_the_speed alone answers otherwise: see there.)
+ * ANSWERS: number + 256 * place + 4294967296 * category. The place counts records from 0, and is 0 save for number 3 and,
+ * of a route, number 4; with engines lent apart 3 counts among the engines. The category is a route's granted one, and 0
+ * in every other answer. (prskavon_holds_the_speed alone answers otherwise: see there.)
  *
  *     0   done
  *     1   the list is empty or not a multiple of 24 bytes (for a portion: not a multiple of 24 bytes)
  *     2   more than 200 records together; in joining accounts, a joined figure above its ceiling
  *     3   a field out of range; the place is the first such record
- *     4   the order record is not 24 bytes or has a field out of range
- *     5   the lent sheet is shorter than 32 bytes, or the room for an account shorter than 128
+ *     4   the order record is not 24 bytes or has a field out of range; of a route first, with place 0, orders that are not
+ *         whole records, no section or more than 64, then a section with a field out of range or another asked category
+ *         than the first section's, the place being the first such section, counted from 0
+ *     5   the lent sheet is shorter than 32 bytes, or the room for an account shorter than 128; of a route, fewer bytes
+ *         are lent for speeds than it has sections
  *     6   a working engine in a portion offered as hauled
  *     7   bytes that are no account: see the account below
  *     11  the first record is not a working engine; with engines lent apart, any of them is not
@@ -52,6 +56,11 @@
  *     8-11   coupling limit (LRA)                               1 to 100,000
  *     12-15  admissible mass                                    1 to 100,000
  *     16-23  always 0
+ *
+ * The orders of a route: 1 to 64 orders one behind the other, a section each, all with the same category asked
+ *
+ * The speeds of a route, a byte a section
+ *     k      speed on section k in the granted category, or 0 when none is granted
  *
  * A sheet, 32 bytes
  *     0      category asked
@@ -112,10 +121,12 @@ extern "C" {
 #define PRSKAVON_ORDER 24
 #define PRSKAVON_SHEET 32
 #define PRSKAVON_ACCOUNT 128
+#define PRSKAVON_SECTIONS 64 /* the most that a route may have */
 
-/* The two parts of an answer. */
+/* The three parts of an answer. */
 static inline unsigned prskavon_number(uint64_t answer) { return (unsigned)(answer % 256); }
-static inline size_t prskavon_place(uint64_t answer) { return (size_t)(answer / 256); }
+static inline size_t prskavon_place(uint64_t answer) { return (size_t)(answer / 256 % 16777216); }
+static inline unsigned prskavon_category(uint64_t answer) { return (unsigned)(answer / 4294967296); }
 
 /* The sheet of a whole train, its working engines in front.
  * Refusals, the first that applies: 1, 2, 3, 4, 5, 11, 12, 13, 14. Done: 32 bytes of sheet are written. */
@@ -148,6 +159,21 @@ uint64_t prskavon_sheet_of_account(const uint8_t *engines, size_t engines_len,
 size_t prskavon_holds_the_speed(const uint8_t *front, size_t front_len,
                                 const uint8_t *back, size_t back_len,
                                 uint8_t *vehicle, size_t vehicle_len);
+
+/* The route of a whole train, its working engines in front: one category for all sections. Granted is, among the asked
+ * number and greater ones with no rule broken on any section, the one whose slowest section is the fastest, the lowest
+ * number at a tie. Category 0 of a done call: none is granted.
+ * Refusals, the first that applies: 1, 2, 3, 4, 5, 11, 12, 13, 14. Done: a byte of speeds is written for each section. */
+uint64_t prskavon_route_of_train(const uint8_t *vehicles, size_t vehicles_len,
+                                 const uint8_t *orders, size_t orders_len,
+                                 uint8_t *speeds, size_t speeds_len);
+
+/* The same of one or two working engines, lent apart, with the account of what they haul.
+ * Refusals, the first that applies: 1, 7, 2, 3, 4, 5, 11, 13, 14. Done: a byte of speeds is written for each section. */
+uint64_t prskavon_route_of_account(const uint8_t *engines, size_t engines_len,
+                                   const uint8_t *hauled, size_t hauled_len,
+                                   const uint8_t *orders, size_t orders_len,
+                                   uint8_t *speeds, size_t speeds_len);
 
 #ifdef __cplusplus
 }

@@ -9,6 +9,7 @@
 #include "prskavon.h"
 
 enum { VEHICLES = 11, TRAIN = VEHICLES * PRSKAVON_VEHICLE, ENGINE = PRSKAVON_VEHICLE, CUT = 4 * PRSKAVON_VEHICLE };
+enum { LINES = 3, ORDERS = LINES * PRSKAVON_ORDER };
 
 /* Kinds and settings of bytes 17 and 18, as far as this train has them. */
 enum { WAGON = 0, WORKING_ENGINE = 2, SET_V = 2 };
@@ -24,6 +25,14 @@ static const char *const category[] = {"none", "ME120/P120", "ME100/P100", "MA10
 /* Document 01 prints case A's line; case B's follows from its margin of -2 t, rule 47 and 43.0 t a wagon. */
 static const char case_a[] = "0 0 010164000000002020004400004d000070170000f41a000070170000a4060000";
 static const char case_b[] = "0 0 010264002f0000202000feffff4d000070170000f41a0000b4140000a4060000";
+
+/* The limits of a route's three sections. On the third ME100 is missing, so MA100 counts for category 2. */
+static const uint8_t limits[LINES][5] = {{120, 100, 100, 100, 100}, {80, 90, 100, 100, 100}, {100, 0, 90, 90, 80}};
+
+/* Slowest are 80 km/h in category 1, 90 in 2 and 90 in 3, and 4 and 5 break rule 32: so 2, on these sections at these
+ * speeds. Each section for itself would be granted another. */
+static const uint8_t route_category = 2, route_speeds[LINES] = {100, 90, 90};
+static const uint8_t alone_category[LINES] = {1, 3, 1}, alone_speed[LINES] = {120, 100, 100};
 
 static void expect(bool holds, const char *what) {
     if (!holds) {
@@ -132,11 +141,76 @@ static void speed_holder(const uint8_t *train) {
     expect(memcmp(vehicle, train + ENGINE, sizeof vehicle) == 0, "the first wagon holds the speed");
 }
 
-static void refused(uint64_t answer, unsigned number, size_t place, const char *words, const uint8_t *sheet) {
+/* Case A's orders for the three sections, one behind the other. */
+static void put_orders(uint8_t *orders, const uint8_t *order) {
+    for (size_t k = 0; k < LINES; k++) {
+        memcpy(orders + k * PRSKAVON_ORDER, order, PRSKAVON_ORDER);
+        memcpy(orders + k * PRSKAVON_ORDER, limits[k], 5);
+    }
+}
+
+/* One category from end to end, and beside it what each section for itself would be granted. */
+static void route(const uint8_t *train, const uint8_t *orders, uint8_t *speeds) {
+    uint64_t answer = prskavon_route_of_train(train, TRAIN, orders, ORDERS, speeds, LINES);
+    print_answer(answer, "");
+    printf("  asked %s, granted %s\n", category[orders[5]], category[prskavon_category(answer)]);
+    expect(prskavon_number(answer) == 0 && prskavon_category(answer) == route_category, "the route's category");
+    for (size_t k = 0; k < LINES; k++) {
+        uint8_t sheet[PRSKAVON_SHEET];
+        const uint8_t *order = orders + k * PRSKAVON_ORDER;
+        expect(prskavon_sheet_of_train(train, TRAIN, order, PRSKAVON_ORDER, sheet, sizeof sheet) == 0, "a section's sheet");
+        printf("  section %zu: %d km/h; for itself %s at %d km/h\n", k, speeds[k], category[sheet[1]], sheet[2]);
+        expect(speeds[k] == route_speeds[k], "the section's speed");
+        expect(sheet[1] == alone_category[k] && sheet[2] == alone_speed[k], "the section for itself");
+    }
+}
+
+static void route_by_account(const uint8_t *engine, const uint8_t *account, const uint8_t *orders, const uint8_t *whole) {
+    uint8_t speeds[LINES];
+    uint64_t answer = prskavon_route_of_account(engine, ENGINE, account, PRSKAVON_ACCOUNT, orders, ORDERS, speeds, sizeof speeds);
+    print_answer(answer, "");
+    expect(prskavon_number(answer) == 0 && prskavon_category(answer) == route_category, "the route's category");
+    expect(memcmp(speeds, whole, sizeof speeds) == 0, "the route does not depend on the cut");
+    printf("  the same category and speeds\n");
+}
+
+static void given(uint64_t answer, unsigned number, size_t place, const char *words) {
     print_answer(answer, words);
     expect(prskavon_number(answer) == number && prskavon_place(answer) == place, words);
-    for (int i = 0; i < PRSKAVON_SHEET; i++) expect(sheet[i] == 0xaa, "a refused sheet is not written at all");
+    expect(prskavon_category(answer) == 0, "a refusal gives category 0");
+}
+
+/* Whether all lent bytes still hold the mark that main put there. */
+static bool untouched(const uint8_t *lent, size_t length) {
+    while (length > 0 && lent[length - 1] == 0xaa) length--;
+    return length == 0;
+}
+
+static void refused(uint64_t answer, unsigned number, size_t place, const char *words, const uint8_t *sheet) {
+    given(answer, number, place, words);
+    expect(untouched(sheet, PRSKAVON_SHEET), "a refused sheet is not written at all");
     printf("  the sheet was left as it was\n");
+}
+
+static void refused_route(const uint8_t *train, const uint8_t *orders) {
+    uint8_t speeds[LINES];
+    memset(speeds, 0xaa, sizeof speeds);
+    given(prskavon_route_of_train(train, TRAIN, orders, ORDERS, speeds, sizeof speeds), 4, 2,
+          ": the order record is not 24 bytes or has a field out of range; of a route, the orders are not whole, none or more than 64, or the section at this place, counted from 0, is out of range or asks for another category");
+    expect(untouched(speeds, sizeof speeds), "a refused route writes nothing");
+    printf("  the speeds were left as they were\n");
+}
+
+static void routes(const uint8_t *train, const uint8_t *order, const uint8_t *account) {
+    uint8_t orders[ORDERS], speeds[LINES];
+    put_orders(orders, order);
+    printf("Case A's train on a route of three sections\n");
+    route(train, orders, speeds);
+    printf("The same route, from the engine and the joined accounts\n");
+    route_by_account(train, account, orders, speeds);
+    printf("A German percentage of 201 on the last section\n");
+    orders[2 * PRSKAVON_ORDER + 6] = 201;
+    refused_route(train, orders);
 }
 
 int main(void) {
@@ -154,6 +228,7 @@ int main(void) {
     by_portions(train, order, sheet, account);
     printf("The vehicle that holds the speed\n");
     speed_holder(train);
+    routes(train, order, account);
 
     memset(sheet, 0xaa, sizeof sheet); /* a mark that no refused call may touch */
     printf("A fourth vehicle with 25 axles\n");

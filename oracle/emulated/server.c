@@ -10,6 +10,8 @@ uint64_t prskavon_account_of(const uint8_t *, size_t, uint8_t *, size_t);
 uint64_t prskavon_join(const uint8_t *, size_t, const uint8_t *, size_t, uint8_t *, size_t);
 uint64_t prskavon_sheet_of_account(const uint8_t *, size_t, const uint8_t *, size_t, const uint8_t *, size_t, uint8_t *, size_t);
 size_t prskavon_holds_the_speed(const uint8_t *, size_t, const uint8_t *, size_t, uint8_t *, size_t);
+uint64_t prskavon_route_of_train(const uint8_t *, size_t, const uint8_t *, size_t, uint8_t *, size_t);
+uint64_t prskavon_route_of_account(const uint8_t *, size_t, const uint8_t *, size_t, const uint8_t *, size_t, uint8_t *, size_t);
 
 /* What the library asks of the C library. */
 void *memcpy(void *to, const void *from, size_t n)
@@ -77,6 +79,10 @@ static uint64_t call(const struct head *h, uint8_t *room)
         return prskavon_sheet_of_account(lent_in[0], h->length[0], lent_in[1], h->length[1], lent_in[2], h->length[2], room,
                                          h->room);
     case 4: return prskavon_holds_the_speed(lent_in[0], h->length[0], lent_in[1], h->length[1], room, h->room);
+    case 5: return prskavon_route_of_train(lent_in[0], h->length[0], lent_in[1], h->length[1], room, h->room);
+    case 6:
+        return prskavon_route_of_account(lent_in[0], h->length[0], lent_in[1], h->length[1], lent_in[2], h->length[2], room,
+                                         h->room);
     default: leave(6); return 0;
     }
 }

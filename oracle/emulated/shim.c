@@ -100,3 +100,12 @@ size_t prskavon_holds_the_speed(const uint8_t *f, size_t fl, const uint8_t *b, s
 {
     return (size_t)ASK(4, f, fl, b, bl, 0, 0, v, vl);
 }
+uint64_t prskavon_route_of_train(const uint8_t *v, size_t vl, const uint8_t *o, size_t ol, uint8_t *s, size_t sl)
+{
+    return ASK(5, v, vl, o, ol, 0, 0, s, sl);
+}
+uint64_t prskavon_route_of_account(const uint8_t *e, size_t el, const uint8_t *h, size_t hl, const uint8_t *o, size_t ol,
+                                   uint8_t *s, size_t sl)
+{
+    return ASK(6, e, el, h, hl, o, ol, s, sl);
+}

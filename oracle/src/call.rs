@@ -3,10 +3,11 @@
 use crate::account::ACCOUNT;
 use crate::calls;
 use crate::line::hex;
+use crate::order::ORDER;
 use crate::sheet::SHEET;
 use crate::vehicle::VEHICLE;
 
-/// Something that has the five functions.
+/// Something that has the seven functions.
 pub trait Side {
     fn sheet_of_train(&self, vehicles: &[u8], order: &[u8], room: &mut [u8]) -> u64;
     fn account_of(&self, portion: &[u8], room: &mut [u8]) -> u64;
@@ -14,6 +15,14 @@ pub trait Side {
     fn sheet_of_account(&self, engines: &[u8], hauled: &[u8], order: &[u8], room: &mut [u8])
         -> u64;
     fn holds_the_speed(&self, front: &[u8], back: &[u8], room: &mut [u8]) -> usize;
+    fn route_of_train(&self, vehicles: &[u8], orders: &[u8], room: &mut [u8]) -> u64;
+    fn route_of_account(
+        &self,
+        engines: &[u8],
+        hauled: &[u8],
+        orders: &[u8],
+        room: &mut [u8],
+    ) -> u64;
 }
 
 /// The model of this crate.
@@ -46,6 +55,20 @@ impl Side for Model {
     fn holds_the_speed(&self, front: &[u8], back: &[u8], room: &mut [u8]) -> usize {
         calls::holds_the_speed(front, back, room)
     }
+
+    fn route_of_train(&self, vehicles: &[u8], orders: &[u8], room: &mut [u8]) -> u64 {
+        calls::route_of_train(vehicles, orders, room)
+    }
+
+    fn route_of_account(
+        &self,
+        engines: &[u8],
+        hauled: &[u8],
+        orders: &[u8],
+        room: &mut [u8],
+    ) -> u64 {
+        calls::route_of_account(engines, hauled, orders, room)
+    }
 }
 
 #[derive(Clone, Copy, Debug, PartialEq, Eq)]
@@ -55,14 +78,18 @@ pub enum Function {
     Join,
     SheetOfAccount,
     HoldsTheSpeed,
+    RouteOfTrain,
+    RouteOfAccount,
 }
 
-pub const FUNCTIONS: [Function; 5] = [
+pub const FUNCTIONS: [Function; 7] = [
     Function::SheetOfTrain,
     Function::AccountOf,
     Function::Join,
     Function::SheetOfAccount,
     Function::HoldsTheSpeed,
+    Function::RouteOfTrain,
+    Function::RouteOfAccount,
 ];
 
 impl Function {
@@ -73,22 +100,15 @@ impl Function {
             Function::Join => "join",
             Function::SheetOfAccount => "sheet_of_account",
             Function::HoldsTheSpeed => "holds_the_speed",
-        }
-    }
-
-    /// How many bytes a done call writes.
-    pub fn writes(self) -> usize {
-        match self {
-            Function::SheetOfTrain | Function::SheetOfAccount => SHEET,
-            Function::AccountOf | Function::Join => ACCOUNT,
-            Function::HoldsTheSpeed => VEHICLE,
+            Function::RouteOfTrain => "route_of_train",
+            Function::RouteOfAccount => "route_of_account",
         }
     }
 
     pub fn is_done(self, answer: u64) -> bool {
         match self {
             Function::HoldsTheSpeed => answer == 24,
-            _ => answer == 0,
+            _ => answer.is_multiple_of(256),
         }
     }
 }
@@ -116,6 +136,15 @@ pub enum Inputs {
         front: Vec<u8>,
         back: Vec<u8>,
     },
+    TrainRoute {
+        vehicles: Vec<u8>,
+        orders: Vec<u8>,
+    },
+    AccountRoute {
+        engines: Vec<u8>,
+        hauled: Vec<u8>,
+        orders: Vec<u8>,
+    },
 }
 
 /// The longest buffer that is lent, with room behind it to see a write past its end.
@@ -138,6 +167,20 @@ impl Call {
             Inputs::Accounts { .. } => Function::Join,
             Inputs::Engines { .. } => Function::SheetOfAccount,
             Inputs::Portions { .. } => Function::HoldsTheSpeed,
+            Inputs::TrainRoute { .. } => Function::RouteOfTrain,
+            Inputs::AccountRoute { .. } => Function::RouteOfAccount,
+        }
+    }
+
+    /// How many bytes it writes if it is done: of a route as many as there are sections.
+    pub fn writes(&self) -> usize {
+        match &self.inputs {
+            Inputs::Train { .. } | Inputs::Engines { .. } => SHEET,
+            Inputs::Portion { .. } | Inputs::Accounts { .. } => ACCOUNT,
+            Inputs::Portions { .. } => VEHICLE,
+            Inputs::TrainRoute { orders, .. } | Inputs::AccountRoute { orders, .. } => {
+                orders.len() / ORDER
+            }
         }
     }
 
@@ -157,6 +200,12 @@ impl Call {
                 order,
             } => side.sheet_of_account(engines, hauled, order, room),
             Inputs::Portions { front, back } => side.holds_the_speed(front, back, room) as u64,
+            Inputs::TrainRoute { vehicles, orders } => side.route_of_train(vehicles, orders, room),
+            Inputs::AccountRoute {
+                engines,
+                hauled,
+                orders,
+            } => side.route_of_account(engines, hauled, orders, room),
         }
     }
 
@@ -179,6 +228,14 @@ impl Call {
                 order,
             } => &[("engines", engines), ("hauled", hauled), ("order", order)],
             Inputs::Portions { front, back } => &[("front", front), ("back", back)],
+            Inputs::TrainRoute { vehicles, orders } => {
+                &[("vehicles", vehicles), ("orders", orders)]
+            }
+            Inputs::AccountRoute {
+                engines,
+                hauled,
+                orders,
+            } => &[("engines", engines), ("hauled", hauled), ("orders", orders)],
         };
         let lines = inputs
             .iter()

@@ -1,9 +1,10 @@
-//! The five functions, in the shape of the product's C functions.
+//! The seven functions, in the shape of the product's C functions.
 
 use crate::account::{Account, ACCOUNT};
-use crate::answer::{answer, demand, refusal, Refusal};
+use crate::answer::{answer, demand, refusal, route_answer, Refusal};
 use crate::facts::Facts;
 use crate::order::Order;
+use crate::route::{granted, sections};
 use crate::sheet::{sheet, SHEET};
 use crate::vehicle::{first_bad, is_working, Record, MOST_RECORDS, VEHICLE};
 
@@ -27,6 +28,16 @@ pub fn sheet_of_account(engines: &[u8], hauled: &[u8], order: &[u8], room: &mut 
     answer(judged(engines, hauled, order, room))
 }
 
+/// The route of a whole train. Refusals in order: 1, 2, 3, 4, 5, 11, 12, 13, 14.
+pub fn route_of_train(vehicles: &[u8], orders: &[u8], room: &mut [u8]) -> u64 {
+    route_answer(train_route(vehicles, orders, room))
+}
+
+/// The route of engines with an account. Refusals in order: 1, 7, 2, 3, 4, 5, 11, 13, 14.
+pub fn route_of_account(engines: &[u8], hauled: &[u8], orders: &[u8], room: &mut [u8]) -> u64 {
+    route_answer(account_route(engines, hauled, orders, room))
+}
+
 /// Copies the vehicle that holds the speed and answers 24, or answers 0.
 pub fn holds_the_speed(front: &[u8], back: &[u8], room: &mut [u8]) -> usize {
     match (slowest_of(front, back), room.get_mut(..VEHICLE)) {
@@ -39,12 +50,33 @@ pub fn holds_the_speed(front: &[u8], back: &[u8], room: &mut [u8]) -> usize {
 }
 
 fn train(vehicles: &[u8], order: &[u8], room: &mut [u8]) -> Result<(), Refusal> {
+    let records = train_records(vehicles)?;
+    let order = Order::read(order).ok_or(refusal(4))?;
+    let room = lent::<SHEET>(room)?;
+    *room = sheet(&train_facts(records)?, &order);
+    Ok(())
+}
+
+fn train_route(vehicles: &[u8], orders: &[u8], room: &mut [u8]) -> Result<u8, Refusal> {
+    let records = train_records(vehicles)?;
+    let sections = sections(orders)?;
+    let room = lent_for(room, sections.len())?;
+    let route = granted(&train_facts(records)?, &sections);
+    room.copy_from_slice(&route.speeds);
+    Ok(route.category)
+}
+
+/// Refusals 1, 2 and 3 of a whole train.
+fn train_records(vehicles: &[u8]) -> Result<&[Record], Refusal> {
     let records = whole_records(vehicles)?;
     demand(!records.is_empty(), 1)?;
     demand(records.len() <= MOST_RECORDS, 2)?;
     all_good(records)?;
-    let order = Order::read(order).ok_or(refusal(4))?;
-    let room = lent::<SHEET>(room)?;
+    Ok(records)
+}
+
+/// Refusals 11 to 14 of a whole train.
+fn train_facts(records: &[Record]) -> Result<Facts, Refusal> {
     let leading = records
         .iter()
         .take_while(|record| is_working(record))
@@ -54,8 +86,7 @@ fn train(vehicles: &[u8], order: &[u8], room: &mut [u8]) -> Result<(), Refusal> 
     demand(!hauled.iter().any(is_working), 12)?;
     demand(working.len() <= 2, 13)?;
     demand(!hauled.is_empty(), 14)?;
-    *room = sheet(&Facts::of_train(working, hauled), &order);
-    Ok(())
+    Ok(Facts::of_train(working, hauled))
 }
 
 fn portion_account(portion: &[u8], room: &mut [u8]) -> Result<(), Refusal> {
@@ -76,18 +107,46 @@ fn joined(left: &[u8], right: &[u8], room: &mut [u8]) -> Result<(), Refusal> {
 }
 
 fn judged(engines: &[u8], hauled: &[u8], order: &[u8], room: &mut [u8]) -> Result<(), Refusal> {
+    let (working, hauled) = engines_and_account(engines, hauled)?;
+    let order = Order::read(order).ok_or(refusal(4))?;
+    let room = lent::<SHEET>(room)?;
+    *room = sheet(&account_facts(working, &hauled)?, &order);
+    Ok(())
+}
+
+fn account_route(
+    engines: &[u8],
+    hauled: &[u8],
+    orders: &[u8],
+    room: &mut [u8],
+) -> Result<u8, Refusal> {
+    let (working, hauled) = engines_and_account(engines, hauled)?;
+    let sections = sections(orders)?;
+    let room = lent_for(room, sections.len())?;
+    let route = granted(&account_facts(working, &hauled)?, &sections);
+    room.copy_from_slice(&route.speeds);
+    Ok(route.category)
+}
+
+/// Refusals 1, 7, 2 and 3 of engines with an account.
+fn engines_and_account<'a>(
+    engines: &'a [u8],
+    hauled: &[u8],
+) -> Result<(&'a [Record], Account), Refusal> {
     let working = whole_records(engines)?;
     demand(!working.is_empty(), 1)?;
     let hauled = Account::read(hauled).ok_or(refusal(7))?;
     demand(working.len() + hauled.count as usize <= MOST_RECORDS, 2)?;
     all_good(working)?;
-    let order = Order::read(order).ok_or(refusal(4))?;
-    let room = lent::<SHEET>(room)?;
+    Ok((working, hauled))
+}
+
+/// Refusals 11, 13 and 14 of engines with an account.
+fn account_facts(working: &[Record], hauled: &Account) -> Result<Facts, Refusal> {
     demand(working.iter().all(is_working), 11)?;
     demand(working.len() <= 2, 13)?;
     demand(hauled.count > 0, 14)?;
-    *room = sheet(&Facts::of_account(working, &hauled), &order);
-    Ok(())
+    Ok(Facts::of_account(working, hauled))
 }
 
 /// The record with the least byte 20, the first in the train at a tie.
@@ -123,11 +182,19 @@ fn lent<const N: usize>(room: &mut [u8]) -> Result<&mut [u8; N], Refusal> {
     room.first_chunk_mut().ok_or(refusal(5))
 }
 
+/// A byte for each section.
+fn lent_for(room: &mut [u8], sections: usize) -> Result<&mut [u8], Refusal> {
+    room.get_mut(..sections).ok_or(refusal(5))
+}
+
 #[cfg(test)]
 mod tests {
     use super::*;
-    use crate::gen::cases::case_a;
+    use crate::answer::parts;
+    use crate::gen::cases::{case_a, worked_sections};
     use crate::gen::draft::{bytes, Draft};
+    use crate::gen::routes::written;
+    use crate::vehicle::SET_TO_M;
 
     fn sheet_of(draft: &Draft) -> [u8; SHEET] {
         let mut room = [0; SHEET];
@@ -192,5 +259,135 @@ mod tests {
         assert_eq!(sheet_of_train(&vehicles[1..], &[], &mut []), 1);
         assert_eq!(sheet_of_account(&vehicles[..VEHICLE], &[], &[], &mut []), 7);
         assert_eq!(sheet_of_account(&[], &[], &[], &mut []), 1);
+    }
+
+    /// What a done route grants, with the speeds of its sections.
+    fn route_of(draft: &Draft, sections: &[Order]) -> (u64, Vec<u8>) {
+        let mut room = vec![0xaa; sections.len() + 2];
+        let answer = route_of_train(&draft.vehicles(), &written(sections), &mut room);
+        let (number, place, category) = parts(answer);
+        assert_eq!((number, place), (0, 0));
+        assert_eq!(room.split_off(sections.len()), [0xaa; 2]);
+        (category, room)
+    }
+
+    fn lines(draft: &Draft, limits: &[[u8; 5]]) -> Vec<Order> {
+        let order = draft.order;
+        let section = |&limits: &[u8; 5]| Order { limits, ..order };
+        limits.iter().map(section).collect()
+    }
+
+    /// Slowest: 80 in category 1, 90 in 2, 90 in 3. Alone the sections are granted 1, 3 and 1.
+    #[test]
+    fn the_worked_route_goes_to_a_category_that_no_section_alone_is_granted() {
+        let (draft, sections) = (case_a(), worked_sections());
+        assert_eq!(route_of(&draft, &sections), (2, vec![100, 90, 90]));
+        let alone = sections.map(|section| route_of(&draft, &[section]));
+        let expected = [(1, 120), (3, 100), (1, 100)];
+        assert_eq!(
+            alone,
+            expected.map(|(category, speed)| (category, vec![speed]))
+        );
+    }
+
+    #[test]
+    fn the_slowest_section_decides_and_the_lowest_number_at_a_tie() {
+        let draft = case_a();
+        let mut sections = lines(
+            &draft,
+            &[[90, 100, 100, 100, 100], [100, 90, 100, 100, 100]],
+        );
+        assert_eq!(route_of(&draft, &sections), (3, vec![100, 100]));
+        sections.extend(lines(&draft, &[[100, 100, 90, 100, 100]]));
+        assert_eq!(route_of(&draft, &sections), (1, vec![90, 100, 100]));
+    }
+
+    /// 600.0 t are braked of 690.0 t: 86 percent of these are 593.4 t, 87 are 600.3 t. Categories 4 and 5 break 32.
+    #[test]
+    fn one_section_s_timetable_takes_the_category_from_the_route() {
+        let draft = case_a();
+        for (percentage, granted) in [(86, (1, vec![100; 3])), (87, (0, vec![0; 3]))] {
+            let mut sections = [draft.order; 3];
+            sections[1].percentage = percentage;
+            assert_eq!(route_of(&draft, &sections), granted, "{percentage}");
+        }
+    }
+
+    /// All set to M: 580.0 t are braked, 57 percent of 690.0 t are 393.3 t, and 600.0 t are hauled.
+    #[test]
+    fn one_section_s_limits_take_the_category_from_the_route() {
+        let mut draft = case_a();
+        for vehicle in draft.working.iter_mut().chain(&mut draft.hauled) {
+            vehicle.setting = SET_TO_M;
+        }
+        draft.order.asked = 4;
+        for (limit, granted) in [(6_000, (4, vec![100; 2])), (5_999, (0, vec![0; 2]))] {
+            let [mut coupling, mut admissible] = [[draft.order; 2]; 2];
+            coupling[1].coupling = limit;
+            admissible[0].admissible = limit;
+            assert_eq!(route_of(&draft, &coupling), granted, "{limit}");
+            assert_eq!(route_of(&draft, &admissible), granted, "{limit}");
+        }
+    }
+
+    #[test]
+    fn a_section_without_columns_leaves_a_0_for_every_section() {
+        let draft = case_a();
+        let sections = lines(&draft, &[[120; 5], [0; 5], [120; 5]]);
+        assert_eq!(route_of(&draft, &sections), (0, vec![0; 3]));
+        let left = lines(&draft, &[[120; 5], [110, 0, 0, 0, 0], [120; 5]]);
+        assert_eq!(route_of(&draft, &left), (1, vec![120, 110, 120]));
+    }
+
+    #[test]
+    fn a_route_s_4_has_its_section_as_place() {
+        let vehicles = case_a().vehicles();
+        let good = written(&[case_a().order; 65]);
+        let answer = |orders: &[u8]| route_of_train(&vehicles, orders, &mut [0; 64]);
+        for length in [0, 1, 23, 25, 47, 1_535, 1_537, 1_560] {
+            assert_eq!(answer(&good[..length]), 4, "{length} bytes");
+        }
+        assert_eq!(answer(&good[..1_536]), 1 << 32);
+        let mut orders = good[..1_536].to_vec();
+        orders[63 * 24 + 23] = 1;
+        assert_eq!(answer(&orders), 4 + 63 * 256);
+        orders[2 * 24 + 6] = 201;
+        assert_eq!(answer(&orders), 4 + 2 * 256);
+        orders[24 + 5] = 2;
+        assert_eq!(answer(&orders), 4 + 256);
+        assert_eq!(answer(&orders[..1_535]), 4);
+        orders[5] = 6;
+        assert_eq!(answer(&orders), 4);
+    }
+
+    #[test]
+    fn a_route_s_refusals_come_in_their_order_and_write_nothing() {
+        let mut vehicles = case_a().vehicles();
+        let mut orders = written(&[case_a().order; 3]);
+        let mut room = [7; 3];
+        let wagons = vehicles.split_off(VEHICLE);
+        assert_eq!(route_of_train(&wagons, &orders, &mut room[..2]), 5);
+        assert_eq!(route_of_train(&wagons, &orders, &mut room), 11);
+        assert_eq!(route_of_train(&vehicles, &orders, &mut room), 14);
+        orders[24] = 201;
+        assert_eq!(route_of_train(&wagons, &orders, &mut []), 4 + 256);
+        vehicles[23] = 1;
+        assert_eq!(route_of_train(&vehicles, &orders, &mut []), 3);
+        assert_eq!(route_of_account(&vehicles, &[], &orders, &mut room), 7);
+        assert_eq!(room, [7; 3]);
+    }
+
+    #[test]
+    fn an_account_with_speed_0_is_granted_a_route_at_0() {
+        let draft = case_a();
+        let mut account = Account::of(bytes(&draft.hauled).as_chunks().0).write();
+        let engines = bytes(&draft.working);
+        let orders = written(&worked_sections());
+        let mut room = [9; 4];
+        let answer = route_of_account(&engines, &account, &orders, &mut room);
+        assert_eq!((answer, room), (2 << 32, [100, 90, 90, 9]));
+        account[60] = 0;
+        let answer = route_of_account(&engines, &account, &orders, &mut room);
+        assert_eq!((answer, room), (1 << 32, [0, 0, 0, 9]));
     }
 }

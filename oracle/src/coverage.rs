@@ -8,7 +8,8 @@ use crate::call::{Call, Function, Inputs, FUNCTIONS};
 use crate::facts::Facts;
 use crate::offered::Offered;
 use crate::order::Order;
-use crate::precedence::{applying, excluded, refusals};
+use crate::precedence::{applying, excluded, refusals, shown, SECTION};
+use crate::routes::Routes;
 use crate::vehicle::is_working;
 
 /// Rules that a sheet can name; 46 cannot come first, for a hauled part above 7,000 breaks 22 before it.
@@ -27,26 +28,27 @@ struct Sheets {
 
 #[derive(Clone)]
 pub struct Coverage {
-    numbers: [[u64; 32]; 5],
-    pairs: [[[u64; 16]; 16]; 5],
+    numbers: [[u64; 32]; FUNCTIONS.len()],
+    pairs: [[[u64; 16]; 16]; FUNCTIONS.len()],
     sheets: [Sheets; 2],
     offered: Offered,
+    routes: [Routes; 2],
 }
 
 /// What a run has to meet.
 #[derive(Clone, Copy, PartialEq, Eq)]
 pub enum Scope {
-    /// All five functions.
+    /// All seven functions.
     Functions,
-    /// SHEET alone: its sheet is never too short.
-    Line,
+    /// SHEET and ROUTE alone: what they lend is never too short.
+    Lines,
 }
 
 impl Scope {
     fn functions(self) -> &'static [Function] {
         match self {
             Scope::Functions => &FUNCTIONS,
-            Scope::Line => &[Function::SheetOfTrain],
+            Scope::Lines => &[Function::SheetOfTrain, Function::RouteOfTrain],
         }
     }
 
@@ -65,10 +67,11 @@ impl Default for Coverage {
             boundaries: Boundaries::default(),
         };
         Coverage {
-            numbers: [[0; 32]; 5],
-            pairs: [[[0; 16]; 16]; 5],
+            numbers: [[0; 32]; FUNCTIONS.len()],
+            pairs: [[[0; 16]; 16]; FUNCTIONS.len()],
             sheets: [none.clone(), none],
             offered: Offered::default(),
+            routes: [Routes::default(), Routes::default()],
         }
     }
 }
@@ -89,6 +92,17 @@ impl Coverage {
             if let Some((facts, order)) = judged(call) {
                 sheets.boundaries.note(&facts, &order);
             }
+        }
+        if let Some(routes) = self.routes_of(function) {
+            routes.note(call, &all, || facts(call));
+        }
+    }
+
+    fn routes_of(&mut self, function: Function) -> Option<&mut Routes> {
+        match function {
+            Function::RouteOfTrain => Some(&mut self.routes[0]),
+            Function::RouteOfAccount => Some(&mut self.routes[1]),
+            _ => None,
         }
     }
 
@@ -113,6 +127,9 @@ impl Coverage {
             sheets.add(more);
         }
         self.offered.add(&other.offered);
+        for (routes, more) in self.routes.iter_mut().zip(&other.routes) {
+            routes.add(more);
+        }
     }
 
     /// What could have occurred and did not.
@@ -130,9 +147,11 @@ impl Coverage {
             }
         }
         self.sheets[0].missing("trains", scope, &mut missing);
+        missing.extend(self.routes[0].missing(Function::RouteOfTrain, scope));
         if scope == Scope::Functions {
             self.sheets[1].missing("accounts", scope, &mut missing);
             missing.extend(self.offered.missing());
+            missing.extend(self.routes[1].missing(Function::RouteOfAccount, scope));
         }
         missing
     }
@@ -141,6 +160,7 @@ impl Coverage {
         let counts = self.pairs[function as usize];
         for (first, second) in pairs(function) {
             if counts[usize::from(first)][usize::from(second)] == 0 {
+                let (first, second) = (shown(first), shown(second));
                 missing.push(format!("{} {first} with {second}", function.name()));
             }
         }
@@ -161,14 +181,16 @@ impl Coverage {
             let row = row.filter(|&pair| scope.has_pair(pair));
             let row = row.map(|(first, second)| {
                 let count = counts[usize::from(first)][usize::from(second)];
-                format!("{first}+{second}: {count}")
+                format!("{}+{}: {count}", shown(first), shown(second))
             });
             text += &rows(function, &row.collect::<Vec<_>>());
         }
         text += &self.sheets[0].table("trains");
+        text += &self.routes[0].table(Function::RouteOfTrain, scope);
         if scope == Scope::Functions {
             text += &self.sheets[1].table("accounts");
             text += &self.offered.table();
+            text += &self.routes[1].table(Function::RouteOfAccount, scope);
         }
         text + &impossible(scope)
     }
@@ -185,7 +207,11 @@ fn rows(function: Function, counts: &[String]) -> String {
 fn numbers(function: Function) -> Vec<u8> {
     match function {
         Function::HoldsTheSpeed => vec![0, 24],
-        _ => [&[0], refusals(function)].concat(),
+        _ => {
+            let numbers = [&[0], refusals(function)].concat();
+            let given = numbers.into_iter().filter(|&number| number != SECTION);
+            given.collect()
+        }
     }
 }
 
@@ -212,10 +238,13 @@ fn impossible(scope: Scope) -> String {
             let _ = writeln!(text, "  {} {first} with {second}: {why}", function.name());
         }
     }
-    if scope == Scope::Line {
-        text += "  refusal 5: SHEET lends itself 32 bytes\n";
-        text += "  1 with 2: of a list above 200 records SHEET reads 201 whole ones\n";
+    if scope == Scope::Lines {
+        text += "  refusal 5: SHEET lends itself 32 bytes, ROUTE 64\n";
+        text += "  1 with 2: of a list above 200 records both look at 201 whole ones\n";
+        text += "  4 of ROUTE for orders that are not whole: no vehicles are behind them, so 1\n";
     }
+    text +=
+        "  a tie of categories 3 and 4 with another slowest section: they share speed and column\n";
     text += "  refusals that are not in a function's row: the page gives it no such refusal\n";
     text += "  rule 46 as the first broken: a hauled part above 7,000 breaks 22, or 21 before it\n";
     text += "  rules 40 to 44 in categories 4 and 5, 32 to 35 in 1 to 3: not asked there\n";
@@ -223,23 +252,33 @@ fn impossible(scope: Scope) -> String {
     text
 }
 
-/// The facts behind a sheet that was written.
+/// The facts and the order behind a sheet that was written.
 fn judged(call: &Call) -> Option<(Facts, Order)> {
     match &call.inputs {
-        Inputs::Train { vehicles, order } => {
+        Inputs::Train { order, .. } | Inputs::Engines { order, .. } => {
+            Some((facts(call)?, Order::read(order)?))
+        }
+        _ => None,
+    }
+}
+
+/// The facts of a train, or of engines with an account, that is not refused.
+fn facts(call: &Call) -> Option<Facts> {
+    match &call.inputs {
+        Inputs::Train { vehicles, .. } | Inputs::TrainRoute { vehicles, .. } => {
             let records = vehicles.as_chunks().0;
             let leading = records.iter().take_while(|one| is_working(one)).count();
             let (working, hauled) = records.split_at(leading);
-            Some((Facts::of_train(working, hauled), Order::read(order)?))
+            Some(Facts::of_train(working, hauled))
         }
         Inputs::Engines {
-            engines,
-            hauled,
-            order,
+            engines, hauled, ..
+        }
+        | Inputs::AccountRoute {
+            engines, hauled, ..
         } => {
             let account = Account::read(hauled)?;
-            let facts = Facts::of_account(engines.as_chunks().0, &account);
-            Some((facts, Order::read(order)?))
+            Some(Facts::of_account(engines.as_chunks().0, &account))
         }
         _ => None,
     }

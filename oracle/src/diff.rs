@@ -3,31 +3,38 @@
 use std::sync::atomic::{AtomicU64, Ordering};
 
 use crate::account::ACCOUNT;
+use crate::answer::parts;
 use crate::call::{Call, Inputs, Model, Side, BUFFER};
 use crate::coverage::Coverage;
 use crate::gen::draft::bytes;
 use crate::gen::mixture::{
     cut, engines_call, join_call, portion_call, speed_call, train_call, Cut,
 };
+use crate::gen::routes::{account_route_call, route_call, some_sections, swept_journey, written};
 use crate::gen::trains::Size;
 use crate::line::hex;
+use crate::order::ORDER;
 use crate::random::Random;
+use crate::routes::{swept, Met};
 
 /// Differences that are written out; the others are only counted.
 const SHOWN: usize = 5;
 
-pub const KINDS: [&str; 6] = [
+pub const KINDS: [&str; 9] = [
     "whole trains",
     "portions",
     "joins",
     "cut and grouped lists",
     "engines with an account",
     "holds the speed",
+    "routes of whole trains",
+    "routes from an account",
+    "routes of cut lists",
 ];
 
 #[derive(Clone, Default)]
 pub struct Report {
-    pub kinds: [u64; 6],
+    pub kinds: [u64; KINDS.len()],
     pub calls: u64,
     pub differences: u64,
     pub shown: Vec<String>,
@@ -37,6 +44,10 @@ pub struct Report {
 impl Report {
     pub fn compared(&self) -> u64 {
         self.kinds.iter().sum()
+    }
+
+    pub fn routes(&self) -> u64 {
+        self.kinds[6..].iter().sum()
     }
 
     pub fn add(&mut self, other: Report) {
@@ -51,7 +62,13 @@ impl Report {
     }
 }
 
-/// A run over cases by their index; joins have a seed of their own.
+/// Every so manieth route is one of those that are swept.
+const SWEPT_EACH: u64 = 4;
+
+/// Sets the seed of routes apart from that of trains.
+const ROUTES: u64 = 0x0064_0064_0064_0064;
+
+/// A run over cases by their index; joins and routes have seeds of their own.
 pub struct Run<'a, S: Side> {
     pub library: &'a S,
     pub seed: u64,
@@ -63,6 +80,7 @@ impl<S: Side> Run<'_, S> {
         &self,
         trains: impl Iterator<Item = u64>,
         joins: impl Iterator<Item = u64>,
+        routes: impl Iterator<Item = u64>,
     ) -> Report {
         let mut report = Report::default();
         for index in trains {
@@ -78,6 +96,14 @@ impl<S: Side> Run<'_, S> {
             let kind = case.join_case(&mut random);
             let wrong = case.wrong;
             self.close(&mut report, kind, "join", index, wrong);
+        }
+        let swept = swept();
+        for index in routes {
+            let mut random = Random::for_case(self.seed ^ ROUTES, index);
+            let mut case = Case::new(self.library, &mut report);
+            let kind = case.route_case(&mut random, &swept, index);
+            let wrong = case.wrong;
+            self.close(&mut report, kind, "route", index, wrong);
         }
         report
     }
@@ -118,13 +144,54 @@ impl<'a, S: Side> Case<'a, S> {
             20..50 => (2, join_call(random)),
             50..70 => {
                 let cut = cut(random);
-                self.grouping(random, &cut);
+                let hauled = self.grouped(random, &cut);
+                self.both_sheets(&cut, hauled);
                 return 3;
             }
             70..90 => (4, engines_call(random)),
             _ => (5, speed_call(random)),
         };
         self.check(&call);
+        kind
+    }
+
+    /// What is swept comes in turn, first for whole trains and then for accounts.
+    fn route_case(&mut self, random: &mut Random, swept: &[Met], index: u64) -> usize {
+        if index.is_multiple_of(SWEPT_EACH) {
+            let turn = (index / SWEPT_EACH) as usize;
+            let journey = swept_journey(random, swept[turn % swept.len()]);
+            let fill = random.draw() as u8;
+            return match (turn / swept.len()).is_multiple_of(2) {
+                true => self.route(6, &journey.of_train(fill)),
+                false => self.route(7, &journey.of_account(fill)),
+            };
+        }
+        match random.below(100) {
+            0..45 => self.route(6, &route_call(random, Size::Any)),
+            45..80 => self.route(7, &account_route_call(random)),
+            _ => {
+                let cut = cut(random);
+                let hauled = self.grouped(random, &cut);
+                let orders = written(&some_sections(random, &cut.draft));
+                self.both_routes(&cut, hauled, orders);
+                8
+            }
+        }
+    }
+
+    /// A route; one of a single section is held against the sheet too.
+    fn route(&mut self, kind: usize, call: &Call) -> usize {
+        let (answer, speeds) = self.check(call);
+        if call.writes() == 1 && call.function().is_done(answer) {
+            let (_, sheet) = self.check(&sheet_call(call));
+            if (parts(answer).2, speeds[0]) != (u64::from(sheet[1]), sheet[2]) {
+                let text = format!(
+                    "  a route of one section is not its sheet\n{}",
+                    call.describe()
+                );
+                self.wrong.push(text);
+            }
+        }
         kind
     }
 
@@ -153,7 +220,7 @@ impl<'a, S: Side> Case<'a, S> {
     fn check_writing(&mut self, call: &Call, answer: u64, found: &[u8; BUFFER]) {
         let function = call.function();
         let written = match function.is_done(answer) {
-            true => function.writes(),
+            true => call.writes(),
             false => 0,
         };
         if found[written..] != call.buffer()[written..] {
@@ -166,8 +233,8 @@ impl<'a, S: Side> Case<'a, S> {
         }
     }
 
-    /// The joined account is the uncut list's, and gives the sheet of the whole train.
-    fn grouping(&mut self, random: &mut Random, cut: &Cut) {
+    /// The account joined in some grouping, which is the uncut list's.
+    fn grouped(&mut self, random: &mut Random, cut: &Cut) -> Vec<u8> {
         let mut accounts: Vec<Vec<u8>> = vec![];
         for portion in &cut.portions {
             accounts.push(self.account_of(portion.clone()));
@@ -187,7 +254,7 @@ impl<'a, S: Side> Case<'a, S> {
                 hex(&uncut)
             ));
         }
-        self.both_sheets(cut, hauled);
+        hauled
     }
 
     fn account_of(&mut self, portion: Vec<u8>) -> Vec<u8> {
@@ -213,6 +280,7 @@ impl<'a, S: Side> Case<'a, S> {
         buffer[..ACCOUNT].to_vec()
     }
 
+    /// The account gives the sheet of the whole train.
     fn both_sheets(&mut self, cut: &Cut, hauled: Vec<u8>) {
         let order = cut.draft.order.write().to_vec();
         let of_train = Inputs::Train {
@@ -224,32 +292,77 @@ impl<'a, S: Side> Case<'a, S> {
             hauled,
             order,
         };
-        let sheet = |inputs| Call {
-            inputs,
-            room: 40,
-            fill: 0xa5,
+        self.both(of_train, of_account, 40);
+    }
+
+    /// And its route.
+    fn both_routes(&mut self, cut: &Cut, hauled: Vec<u8>, orders: Vec<u8>) {
+        let of_train = Inputs::TrainRoute {
+            vehicles: cut.draft.vehicles(),
+            orders: orders.clone(),
         };
-        let train = self.check(&sheet(of_train));
-        let account = self.check(&sheet(of_account));
+        let of_account = Inputs::AccountRoute {
+            engines: bytes(&cut.draft.working),
+            hauled,
+            orders,
+        };
+        self.both(of_train, of_account, 70);
+    }
+
+    fn both(&mut self, of_train: Inputs, of_account: Inputs, room: usize) {
+        let fill = 0xa5;
+        let [train, account] =
+            [of_train, of_account].map(|inputs| self.check(&Call { inputs, room, fill }));
         if train != account {
             self.wrong.push(format!(
-                "  the account's sheet is not the train's\n  train   {} {}\n  account {} {}\n",
+                "  the account's answer is not the train's\n  train   {} {}\n  account {} {}\n",
                 shown(train.0),
-                hex(&train.1[..40]),
+                hex(&train.1[..room]),
                 shown(account.0),
-                hex(&account.1[..40]),
+                hex(&account.1[..room]),
             ));
         }
     }
 }
 
+/// The sheet on a route's first section.
+fn sheet_call(route: &Call) -> Call {
+    let first = |orders: &[u8]| orders[..ORDER].to_vec();
+    let inputs = match route.inputs.clone() {
+        Inputs::TrainRoute { vehicles, orders } => Inputs::Train {
+            vehicles,
+            order: first(&orders),
+        },
+        Inputs::AccountRoute {
+            engines,
+            hauled,
+            orders,
+        } => Inputs::Engines {
+            engines,
+            hauled,
+            order: first(&orders),
+        },
+        other => other,
+    };
+    Call {
+        inputs,
+        room: 40,
+        fill: route.fill,
+    }
+}
+
 fn shown(answer: u64) -> String {
-    format!("number {} place {}", answer % 256, answer / 256)
+    let (number, place, category) = parts(answer);
+    format!("number {number} place {place} category {category}")
 }
 
 #[cfg(test)]
 mod tests {
     use super::*;
+    use crate::category::{Category, CATEGORIES};
+    use crate::facts::Facts;
+    use crate::route::{sections, speed_on, speeds};
+    use crate::vehicle::is_working;
 
     /// The model with one slip of the page's list, or with a write where none is allowed.
     #[derive(Clone, Copy, PartialEq)]
@@ -263,6 +376,13 @@ mod tests {
         ReadsTwoBytes,
         TakesUnusedBytes,
         TakesLonger,
+        RouteByFastest,
+        RouteTieByGreater,
+        RouteLastLeftOut,
+        RoutePlaceOffByOne,
+        RouteFiveBeforeFour,
+        RouteWritesBehind,
+        RouteWritesWhenRefused,
     }
 
     impl Slip {
@@ -280,6 +400,36 @@ mod tests {
                 _ => {}
             }
             taken
+        }
+
+        /// A done route as one with this slip chooses its category.
+        fn chosen(self, vehicles: &[u8], orders: &[u8], room: &mut [u8]) -> u64 {
+            let records = vehicles.as_chunks().0;
+            let leading = records.iter().take_while(|one| is_working(one)).count();
+            let facts = Facts::of_train(&records[..leading], &records[leading..]);
+            let sections = sections(orders).expect("a done route has good sections");
+            let seen = match self {
+                Slip::RouteLastLeftOut if sections.len() > 1 => &sections[..sections.len() - 1],
+                _ => &sections[..],
+            };
+            let key = |category: &&Category| {
+                let speeds = speeds(category, &facts, seen)?;
+                let key = match self {
+                    Slip::RouteByFastest => speeds.into_iter().max(),
+                    _ => speeds.into_iter().min(),
+                };
+                let number = i16::from(category.number);
+                let later = self == Slip::RouteTieByGreater;
+                Some((key, if later { number } else { -number }))
+            };
+            let may_be = &CATEGORIES[usize::from(sections[0].asked) - 1..];
+            let standing = may_be.iter().filter(|one| key(one).is_some());
+            let granted = standing.max_by_key(key);
+            for (byte, section) in room.iter_mut().zip(&sections) {
+                let speed = granted.and_then(|category| speed_on(category, &facts, section));
+                *byte = speed.unwrap_or(0);
+            }
+            granted.map_or(0, |category| u64::from(category.number) << 32)
         }
     }
 
@@ -327,6 +477,37 @@ mod tests {
         fn holds_the_speed(&self, front: &[u8], back: &[u8], room: &mut [u8]) -> usize {
             Model.holds_the_speed(front, back, room)
         }
+
+        fn route_of_train(&self, vehicles: &[u8], orders: &[u8], room: &mut [u8]) -> u64 {
+            let answer = Model.route_of_train(vehicles, orders, room);
+            let (number, place, _) = parts(answer);
+            let sections = orders.len() / ORDER;
+            match self {
+                Slip::RouteByFastest | Slip::RouteTieByGreater | Slip::RouteLastLeftOut
+                    if number == 0 =>
+                {
+                    return self.chosen(vehicles, orders, room);
+                }
+                Slip::RoutePlaceOffByOne if number == 4 && place > 0 => return answer - 256,
+                Slip::RouteFiveBeforeFour if number == 4 && room.len() < sections => return 5,
+                Slip::RouteWritesBehind if number == 0 && room.len() > sections => {
+                    room[sections] ^= 1;
+                }
+                Slip::RouteWritesWhenRefused if number == 12 => room[0] ^= 1,
+                _ => {}
+            }
+            answer
+        }
+
+        fn route_of_account(
+            &self,
+            engines: &[u8],
+            hauled: &[u8],
+            orders: &[u8],
+            room: &mut [u8],
+        ) -> u64 {
+            Model.route_of_account(engines, &self.taken(hauled), orders, room)
+        }
     }
 
     fn differences(slip: Slip) -> u64 {
@@ -335,7 +516,7 @@ mod tests {
             seed: 3,
             done: &AtomicU64::new(0),
         };
-        run.cases(0..3_000, 0..3_000).differences
+        run.cases(0..3_000, 0..3_000, 0..3_000).differences
     }
 
     #[test]
@@ -353,5 +534,16 @@ mod tests {
         assert!(differences(Slip::ReadsTwoBytes) > 0);
         assert!(differences(Slip::TakesUnusedBytes) > 0);
         assert!(differences(Slip::TakesLonger) > 0);
+    }
+
+    #[test]
+    fn slips_of_routes_are_found() {
+        assert!(differences(Slip::RouteByFastest) > 0);
+        assert!(differences(Slip::RouteTieByGreater) > 0);
+        assert!(differences(Slip::RouteLastLeftOut) > 0);
+        assert!(differences(Slip::RoutePlaceOffByOne) > 0);
+        assert!(differences(Slip::RouteFiveBeforeFour) > 0);
+        assert!(differences(Slip::RouteWritesBehind) > 0);
+        assert!(differences(Slip::RouteWritesWhenRefused) > 0);
     }
 }

@@ -1,4 +1,4 @@
-//! A second reading of document 01: the model, its inputs, and the comparison with the product.
+//! A second reading of document 01 and the requests after it: the model, its inputs, and the comparison with the product.
 
 pub mod account;
 pub mod answer;
@@ -15,6 +15,8 @@ pub mod offered;
 pub mod order;
 pub mod precedence;
 pub mod random;
+pub mod route;
+pub mod routes;
 pub mod rules;
 pub mod sheet;
 pub mod speed;

@@ -106,13 +106,18 @@ impl Probe {
 const KINDS: [&str; 5] = ["figures", "marks", "settings", "unused bytes", "lengths"];
 
 /// The accounts that a call is offered, and the functions that lend room for one.
-const OFFERED: [&str; 3] = ["join, left", "join, right", "sheet_of_account"];
+const OFFERED: [&str; 4] = [
+    "join, left",
+    "join, right",
+    "sheet_of_account",
+    "route_of_account",
+];
 const LENT: [Function; 2] = [Function::AccountOf, Function::Join];
 
 #[derive(Clone)]
 pub struct Offered {
     probes: Vec<Probe>,
-    counts: [Vec<u64>; 3],
+    counts: [Vec<u64>; 4],
     rooms: [[u64; LENGTHS.len()]; 2],
 }
 
@@ -122,7 +127,7 @@ impl Default for Offered {
         let none = vec![0; probes.len()];
         Offered {
             probes,
-            counts: [none.clone(), none.clone(), none],
+            counts: std::array::from_fn(|_| none.clone()),
             rooms: Default::default(),
         }
     }
@@ -141,6 +146,9 @@ impl Offered {
             }
             Inputs::Engines { hauled, .. } if !refusals.contains(&1) => {
                 self.note_account(2, hauled)
+            }
+            Inputs::AccountRoute { hauled, .. } if !refusals.contains(&1) => {
+                self.note_account(3, hauled)
             }
             _ => {}
         }

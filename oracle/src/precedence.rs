@@ -2,8 +2,12 @@
 
 use crate::account::Account;
 use crate::call::{Call, Function, Inputs};
-use crate::order::Order;
+use crate::order::{Order, ORDER};
+use crate::route::{is_bad, SECTIONS};
 use crate::vehicle::{first_bad, is_working, Record, VEHICLE};
+
+/// Stands for number 4 where a section of a route is bad; 4 itself is for the orders as a whole.
+pub const SECTION: u8 = 8;
 
 /// The refusals of a function in the order in which they are given.
 pub fn refusals(function: Function) -> &'static [u8] {
@@ -13,13 +17,23 @@ pub fn refusals(function: Function) -> &'static [u8] {
         Function::Join => &[7, 2, 5],
         Function::SheetOfAccount => &[1, 7, 2, 3, 4, 5, 11, 13, 14],
         Function::HoldsTheSpeed => &[],
+        Function::RouteOfTrain => &[1, 2, 3, 4, SECTION, 5, 11, 12, 13, 14],
+        Function::RouteOfAccount => &[1, 7, 2, 3, 4, SECTION, 5, 11, 13, 14],
+    }
+}
+
+/// A refusal as it is shown.
+pub fn shown(refusal: u8) -> String {
+    match refusal {
+        SECTION => "4 of a section".to_owned(),
+        number => number.to_string(),
     }
 }
 
 /// Pairs that cannot apply together, and why.
 pub fn excluded(function: Function) -> &'static [(u8, u8, &'static str)] {
     match function {
-        Function::SheetOfTrain => &[
+        Function::SheetOfTrain | Function::RouteOfTrain => &[
             (
                 11,
                 13,
@@ -33,26 +47,35 @@ pub fn excluded(function: Function) -> &'static [(u8, u8, &'static str)] {
             ),
         ],
         Function::Join => &[(7, 2, "what is no account has nothing to join")],
-        Function::SheetOfAccount => &[(7, 14, "what is no account has no count")],
+        Function::SheetOfAccount | Function::RouteOfAccount => {
+            &[(7, 14, "what is no account has no count")]
+        }
         _ => &[],
     }
 }
 
 /// Every refusal that would be given if no other applied.
 pub fn applying(call: &Call) -> Vec<u8> {
-    let short = call.room < call.function().writes();
     let mut all = match &call.inputs {
-        Inputs::Train { vehicles, order } => train(vehicles, order),
+        Inputs::Train { vehicles, order } => [train(vehicles), order_refusals(order)].concat(),
         Inputs::Portion { portion } => portion_refusals(portion),
         Inputs::Accounts { left, right } => accounts(left, right),
         Inputs::Engines {
             engines,
             hauled,
             order,
-        } => with_account(engines, hauled, order),
+        } => [with_account(engines, hauled), order_refusals(order)].concat(),
         Inputs::Portions { .. } => return vec![],
+        Inputs::TrainRoute { vehicles, orders } => {
+            [train(vehicles), section_refusals(orders)].concat()
+        }
+        Inputs::AccountRoute {
+            engines,
+            hauled,
+            orders,
+        } => [with_account(engines, hauled), section_refusals(orders)].concat(),
     };
-    if short {
+    if call.room < call.writes() {
         all.push(5);
     }
     all
@@ -71,14 +94,29 @@ fn odd(bytes: &[u8]) -> bool {
     !bytes.len().is_multiple_of(VEHICLE)
 }
 
-fn train(vehicles: &[u8], order: &[u8]) -> Vec<u8> {
+fn order_refusals(order: &[u8]) -> Vec<u8> {
+    chosen(&[(4, Order::read(order).is_none())])
+}
+
+fn section_refusals(orders: &[u8]) -> Vec<u8> {
+    let (records, rest) = orders.as_chunks::<ORDER>();
+    let counted = (1..=SECTIONS).contains(&records.len());
+    chosen(&[
+        (4, !rest.is_empty() || !counted),
+        (
+            SECTION,
+            (0..records.len()).any(|place| is_bad(records, place)),
+        ),
+    ])
+}
+
+fn train(vehicles: &[u8]) -> Vec<u8> {
     let records = whole(vehicles);
     let leading = records.iter().take_while(|one| is_working(one)).count();
     chosen(&[
         (1, vehicles.is_empty() || odd(vehicles)),
         (2, records.len() > 200),
         (3, first_bad(records).is_some()),
-        (4, Order::read(order).is_none()),
         (11, !records.is_empty() && leading == 0),
         (12, records[leading..].iter().any(is_working)),
         (13, leading > 2),
@@ -103,7 +141,7 @@ fn accounts(left: &[u8], right: &[u8]) -> Vec<u8> {
     }
 }
 
-fn with_account(engines: &[u8], hauled: &[u8], order: &[u8]) -> Vec<u8> {
+fn with_account(engines: &[u8], hauled: &[u8]) -> Vec<u8> {
     let records = whole(engines);
     let account = Account::read(hauled);
     let count = account.map_or(0, |account| account.count as usize);
@@ -112,7 +150,6 @@ fn with_account(engines: &[u8], hauled: &[u8], order: &[u8]) -> Vec<u8> {
         (7, account.is_none()),
         (2, records.len() + count > 200),
         (3, first_bad(records).is_some()),
-        (4, Order::read(order).is_none()),
         (11, !records.iter().all(is_working)),
         (13, records.len() > 2),
         (14, account.is_some() && count == 0),

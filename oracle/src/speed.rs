@@ -10,7 +10,10 @@ use crate::gen::accounts::{account_of, bad_account};
 use crate::gen::damage::refused_train;
 use crate::gen::draft::{bytes, Draft};
 use crate::gen::mixture::good_train;
+use crate::gen::routes::{written, LIMITS};
+use crate::order::{Order, ORDER};
 use crate::random::Random;
+use crate::route::SECTIONS;
 
 /// Hauled records of the trains that are measured.
 pub const SIZES: [usize; 4] = [10, 40, 100, 198];
@@ -23,11 +26,17 @@ const ROUNDS: usize = 15;
 
 const SEED: u64 = 7_400;
 
+/// Sections of the routes that are measured, and hauled records of their trains.
+const ROUTES: [usize; 3] = [1, 8, SECTIONS];
+const ROUTE_HAULED: usize = 100;
+
 /// Calls of one kind, and how many records each reads.
 pub struct Workload {
     pub name: String,
     pub records: usize,
     pub calls: Vec<Call>,
+    /// In place of each route a sheet is made for each of its sections.
+    apart: bool,
 }
 
 impl Workload {
@@ -36,6 +45,7 @@ impl Workload {
             name,
             records,
             calls: (0..DISTINCT).map(|_| make()).collect(),
+            apart: false,
         }
     }
 
@@ -44,7 +54,11 @@ impl Workload {
         let mut buffer = [0; BUFFER];
         let mut sum = 0;
         for call in black_box(&self.calls) {
-            sum += call.run(side, black_box(&mut buffer[..call.room]));
+            let room = black_box(&mut buffer[..call.room]);
+            sum += match self.apart {
+                false => call.run(side, room),
+                true => sheets(side, &call.inputs, room),
+            };
         }
         black_box(sum)
     }
@@ -55,6 +69,27 @@ impl Workload {
             self.pass(side);
         }
         start.elapsed().as_nanos() as f64 / (passes * self.calls.len()) as f64
+    }
+}
+
+/// A sheet for each section of a route, and the sum of the answers.
+fn sheets(side: &impl Side, route: &Inputs, room: &mut [u8]) -> u64 {
+    match route {
+        Inputs::TrainRoute { vehicles, orders } => {
+            let sections = orders.chunks_exact(ORDER);
+            let answers = sections.map(|order| side.sheet_of_train(vehicles, order, room));
+            answers.sum()
+        }
+        Inputs::AccountRoute {
+            engines,
+            hauled,
+            orders,
+        } => {
+            let sections = orders.chunks_exact(ORDER);
+            let answers = sections.map(|order| side.sheet_of_account(engines, hauled, order, room));
+            answers.sum()
+        }
+        _ => 0,
     }
 }
 
@@ -180,6 +215,65 @@ fn too_long_joins() -> Workload {
     })
 }
 
+/// Good trains, and sections of other limits for each, such that a category is granted from end to end.
+fn journey(random: &mut Random, sections: usize) -> (Draft, Vec<u8>) {
+    loop {
+        let draft = good_train(random, ROUTE_HAULED);
+        let orders: Vec<Order> = (0..sections)
+            .map(|_| Order {
+                limits: [0; 5].map(|_| random.pick(&LIMITS)),
+                ..draft.order
+            })
+            .collect();
+        let orders = written(&orders);
+        let route = train_route(&draft, orders.clone());
+        if route.outcome(&Model).0 >> 32 != 0 {
+            return (draft, orders);
+        }
+    }
+}
+
+fn train_route(draft: &Draft, orders: Vec<u8>) -> Call {
+    let vehicles = draft.vehicles();
+    call(Inputs::TrainRoute { vehicles, orders }, SECTIONS)
+}
+
+fn account_route(draft: &Draft, orders: Vec<u8>) -> Call {
+    let inputs = Inputs::AccountRoute {
+        engines: bytes(&draft.working),
+        hauled: account_of(&draft.hauled).to_vec(),
+        orders,
+    };
+    call(inputs, SECTIONS)
+}
+
+/// Routes of one engine and what it hauls, or of the engine and the account.
+fn routes(sections: usize, make: fn(&Draft, Vec<u8>) -> Call) -> Workload {
+    let mut random = Random::new(SEED + sections as u64);
+    let call = || {
+        let (draft, orders) = journey(&mut random, sections);
+        make(&draft, orders)
+    };
+    Workload::new(String::new(), ROUTE_HAULED + 1, call)
+}
+
+/// The route, and the sheets of the same sections.
+fn route_and_sheets(of: &str, sections: usize, make: fn(&Draft, Vec<u8>) -> Call) -> [Workload; 2] {
+    let mut route = routes(sections, make);
+    let plural = if sections == 1 { "" } else { "s" };
+    route.name = format!("route of {sections} section{plural}, {of} of {ROUTE_HAULED} hauled");
+    let mut sheets = routes(sections, make);
+    sheets.name = format!("{sections} sheet{plural} of the same {of}, one a section");
+    sheets.apart = true;
+    [route, sheets]
+}
+
+fn measured_routes() -> Vec<[Workload; 2]> {
+    let of_train = ROUTES.map(|sections| route_and_sheets("train", sections, train_route));
+    let of_account = ROUTES.map(|sections| route_and_sheets("account", sections, account_route));
+    of_train.into_iter().chain(of_account).collect()
+}
+
 /// The workload that `instructions` names.
 pub fn workload(what: &str, size: usize) -> Option<Workload> {
     match what {
@@ -188,6 +282,10 @@ pub fn workload(what: &str, size: usize) -> Option<Workload> {
         "join" => Some(joins()),
         "judge" => Some(judged()),
         "refusal" => Some(refused(size as u8)),
+        "route" | "sheets" => {
+            let [route, sheets] = route_and_sheets("train", size, train_route);
+            Some(if what == "route" { route } else { sheets })
+        }
         _ => None,
     }
 }
@@ -206,22 +304,40 @@ pub fn workloads() -> Vec<Workload> {
 /// Every row of the table, as text.
 pub fn table(library: &impl Side) -> String {
     let mut text = format!(
-        "{:<38} {:>19} {:>19} {:>8}\n{:<38} {:>9} {:>9} {:>9} {:>9} {:>8}\n",
+        "{:<46} {:>19} {:>19} {:>8}\n{:<46} {:>9} {:>9} {:>9} {:>9} {:>8}\n",
         "", "library, ns", "model, ns", "model/", "", "call", "record", "call", "record", "library"
     );
     for workload in &workloads() {
-        let (ours, theirs) = medians(workload, library);
-        let records = workload.records as f64;
+        row(&mut text, workload, library);
+    }
+    for pair in &measured_routes() {
+        let [(ours, theirs), (our_sheets, their_sheets)] = pair
+            .each_ref()
+            .map(|workload| row(&mut text, workload, library));
         let _ = writeln!(
             text,
-            "{:<38} {ours:>9.1} {:>9.2} {theirs:>9.1} {:>9.2} {:>8.2}",
-            workload.name,
-            ours / records,
-            theirs / records,
-            theirs / ours,
+            "{:<46} {:>9.3} {:>19.3}",
+            "  the route's share of the sheets",
+            ours / our_sheets,
+            theirs / their_sheets
         );
     }
     text
+}
+
+/// Writes one row, and hands back both times.
+fn row(text: &mut String, workload: &Workload, library: &impl Side) -> (f64, f64) {
+    let (ours, theirs) = medians(workload, library);
+    let records = workload.records as f64;
+    let _ = writeln!(
+        text,
+        "{:<46} {ours:>9.1} {:>9.2} {theirs:>9.1} {:>9.2} {:>8.2}",
+        workload.name,
+        ours / records,
+        theirs / records,
+        theirs / ours,
+    );
+    (ours, theirs)
 }
 
 /// Nanoseconds per call of the library and of the model.

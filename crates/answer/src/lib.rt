@@ -11,7 +11,7 @@ pub fn number_of(answer: Answer) -> usize
         Answer::NotWhole => 1,
         Answer::TooMany => 2,
         Answer::BadField(_) => 3,
-        Answer::BadOrder => 4,
+        Answer::BadOrder(_) => 4,
         Answer::ShortSheet => 5,
         Answer::AboveCeiling => 7,
         Answer::NotWorking => 11,
@@ -21,16 +21,16 @@ pub fn number_of(answer: Answer) -> usize
     }
 }
 
-// 0 save for number 3.
+// 0 save for number 3 and, on a route, number 4.
 pub fn place_of(answer: Answer) -> usize
     ensures { λ r. ⌜ r ≡ placeOf answer ⌝ }
 {
     match answer {
         Answer::BadField(place) => place,
+        Answer::BadOrder(place) => place,
         Answer::Done => 0,
         Answer::NotWhole => 0,
         Answer::TooMany => 0,
-        Answer::BadOrder => 0,
         Answer::ShortSheet => 0,
         Answer::AboveCeiling => 0,
         Answer::NotWorking => 0,

@@ -1,4 +1,5 @@
 pub mod Tables
 pub mod Texts
 pub mod Lines
+pub mod Routes
 pub mod Unique

@@ -1,16 +1,16 @@
 -- Laws of a text in a line, of digits and of hex. Assumes nothing.
-use Prim.Native.Nat.{ℕ, zero, suc, _+_, _*_, _-_, _/_, _%_, _≤_, _<_}
+use Prim.Native.Nat.{ℕ, zero, suc, _+_, _*_, _-_, _/_, _%_, _≤_, _<_, max}
 use mathlib.Core.Path.{_≡_, refl, sym, ap, ap₂, _∙_}
 use mathlib.Core.Bool.{Bool, true, false, cond}
-use mathlib.Core.List.{List, [], _∷_, _++_}
-use native.Mathlib.Nat.{add-zero, not-suc-le-zero}
+use mathlib.Core.List.{List, [], _∷_, _++_, append-nil}
+use native.Mathlib.Nat.{zero-add, add-zero, not-suc-le-zero}
 use native.Mathlib.Numerals.{add-one}
 use native.Mathlib.Omega.{arith}
 use borrow.Author.Tests.{lt-ltb, le-ltb}
 use lib.Dec.{ltb}
-use lib.ListN.{length, getD, take, set, length-append}
-use lib.Seq.{sets, length-sets, take-suc, length-take-le}
-use Rattle.bench.specs.Texts.{glyphOf, digits, decimal, field, hex, sheetText}
+use lib.ListN.{length, getD, take, drop, set, length-take, length-append, drop-of-length-le}
+use lib.Seq.{sets, sets-eq, length-sets, take-suc, take-at, length-take-le}
+use Rattle.bench.specs.Texts.{glyphOf, digits, decimal, field, hex, bytesText, lastField}
 
 -- one text behind the other
 pub sets-append : (l a b : List ℕ) (i : ℕ) → sets (sets l i a) (i + length a) b ≡ sets l i (a ++ b)
@@ -80,11 +80,50 @@ byte-behind l a t m i k x e d q =
     let r = text-behind l a (x ∷ []) m i k d q in
     (r .0 ∙ ap (λ (s : List ℕ). i + length s) (sym e), r .1 ∙ ap (sets l i) (sym e))
 
+-- a text behind one that stands in front
+pub text-on : (l a b : List ℕ) {m m′ : List ℕ} {k r : ℕ} → k ≡ length a → m ≡ sets l 0 a → r ≡ k + length b → m′ ≡ sets m k b → (r ≡ length (a ++ b)) × (m′ ≡ sets l 0 (a ++ b))
+text-on l a b {m} {m′} {k} {r} e q f p =
+    let d : k ≡ 0 + length a = omega arith in
+    let t = text-behind l a b m 0 k d q in
+    (omega (arith, t .0), p ∙ t .1)
+
+-- what was put in front, before the rest of the line
+pub in-front : (l a : List ℕ) {t m : List ℕ} {r : ℕ} → length a ≤ length l → a ≡ t → r ≡ length a → m ≡ sets l 0 a → (r ≡ length t) × (m ≡ t ++ drop (length t) l)
+in-front l a {t} {m} {r} h e n q =
+    let fits : 0 + length a ≤ length l = omega arith in
+    let front = q ∙ sets-eq a l 0 fits ∙ ap (λ (k : ℕ). a ++ drop k l) (zero-add (length a)) in
+    (n ∙ ap length e, front ∙ ap (λ (x : List ℕ). x ++ drop (length x) l) e)
+
+pub front-long : (l : List ℕ) (n : ℕ) {m : ℕ} {r : List ℕ} → m ≡ length l → r ≡ take n l → length r ≤ m
+front-long l n {m} {r} h e =
+    let k : length r ≡ length (take n l) = ap length e in
+    omega (arith, k, length-take n l)
+
+pub front-within : (t l : List ℕ) {m : List ℕ} {r : ℕ} → r ≡ length t → m ≡ t ++ drop (length t) l → r ≤ length m
+front-within t l {m} e q =
+    let n : length m ≡ length (t ++ drop (length t) l) = ap length q in
+    omega (arith, n, length-append t (drop (length t) l))
+
+-- ---- bytes written over blank ones, where it is done
+pub last-written : (done : Bool) (bytes blank : List ℕ) → length blank ≤ length bytes → lastField done (cond done (bytes ++ drop (length bytes) blank) blank) ≡ lastField done bytes
+unfolding lastField
+last-written true bytes blank h = ap (λ (r : List ℕ). hex r ++ (10 ∷ [])) (ap (λ (r : List ℕ). bytes ++ r) (drop-of-length-le blank h) ∙ append-nil bytes)
+last-written false bytes blank h = refl
+
+pub last-shown : (done : Bool) (bytes blank : List ℕ) (n : ℕ) → length bytes ≡ n → lastField done (take n (cond done (bytes ++ drop (length bytes) blank) blank)) ≡ lastField done bytes
+unfolding lastField
+last-shown true bytes blank n e = ap (λ (r : List ℕ). hex r ++ (10 ∷ [])) (take-at bytes (drop (length bytes) blank) n e)
+last-shown false bytes blank n e = refl
+
 -- ---- the longest texts
 pub field-length : (n : ℕ) → length (field n) ≤ 21
 unfolding decimal
 field-length n = omega (arith, digits-length 20 n, length-append (digits 20 n) (32 ∷ []))
 
-pub sheet-length : (done : Bool) (sheet : List ℕ) → length sheet ≡ 32 → length (sheetText done sheet) ≤ 64
-sheet-length true sheet h = omega (arith, hex-length sheet)
-sheet-length false sheet h = omega arith
+pub bytes-length : (done : Bool) (bytes : List ℕ) → length (bytesText done bytes) ≤ max 1 (2 * length bytes)
+bytes-length true bytes = omega (arith, hex-length bytes)
+bytes-length false bytes = omega arith
+
+pub last-length : (done : Bool) (bytes : List ℕ) → length (lastField done bytes) ≤ 1 + max 1 (2 * length bytes)
+unfolding lastField
+last-length done bytes = omega (arith, bytes-length done bytes, length-append (bytesText done bytes) (10 ∷ []))

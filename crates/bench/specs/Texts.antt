@@ -26,6 +26,10 @@ abbrev pub hex : List ℕ → List ℕ
 hex [] = []
 hex (b ∷ bs) = glyphOf (b / 16) ∷ glyphOf (b % 16) ∷ hex bs
 
--- the sheet in hex, or "-" if refused
-abbrev pub sheetText : Bool → List ℕ → List ℕ
-sheetText done sheet = cond done (hex sheet) (45 ∷ [])
+-- bytes in hex, or "-" if refused
+abbrev pub bytesText : Bool → List ℕ → List ℕ
+bytesText done bytes = cond done (hex bytes) (45 ∷ [])
+
+-- the last field of a line, and the line feed that closes it
+unfoldable pub lastField : Bool → List ℕ → List ℕ
+lastField done bytes = bytesText done bytes ++ (10 ∷ [])

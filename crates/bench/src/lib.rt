@@ -1,39 +1,29 @@
-// What the program SHEET says of its input: one line with the number, the place and the sheet.
+// What the programs SHEET and ROUTE say of their input: one line with the number, the place and what is given.
 ghost use mathlib.Core.Path.{_≡_};
 ghost use mathlib.Core.List.{_++_};
 ghost use Prim.Native.Nat.{_≤_};
 ghost use lib.ListN.{length, drop};
 ghost use lib.Seq.{sets};
 ghost use Rattle.sheets.specs.Sheets.{sheetLength};
-ghost use Rattle.bench.specs.Lines.{orderPart, vehiclePart, lineBy, lineOf};
+ghost use Rattle.bench.specs.Lines.{answerFields, lineBy, lineOf};
+ghost use Rattle.bench.specs.Routes.{routeLineBy, routeLineOf};
 use answer::number_of;
 use answer::place_of;
+use part::behind;
+use part::first;
+use part::front;
 use sheets::LENGTH;
 
+mod part;
 mod text;
 
-// The order record in front.
-fn order_part(input: &[u8]) -> &[u8]
-    ensures { λ r. ⌜ now r ≡ orderPart (now (input .entry)) ⌝ }
+fn put_answer(number: usize, place: usize, line: &mut [u8]) -> usize
+    requires { ⌜ 42 ≤ length (now line) ⌝ }
+    ensures { λ r. ⌜ r ≡ length (answerFields number place) ⌝ }
+    ensures { λ _. ⌜ now (line .exit) ≡ sets (now (line .entry)) 0 (answerFields number place) ⌝ }
 {
-    if input.len() < 24 {
-        return input;
-    }
-    &input[0..24]
-}
-
-// The vehicles behind it; what follows byte 4,848 is ignored.
-fn vehicle_part(input: &[u8]) -> &[u8]
-    ensures { λ r. ⌜ now r ≡ vehiclePart (now (input .entry)) ⌝ }
-{
-    let n = input.len();
-    if n < 24 {
-        return &input[0..0];
-    }
-    if n < 4848 {
-        return &input[24..n];
-    }
-    &input[24..4848]
+    let behind_number = text::put_field(number, line, 0);
+    text::put_field(place, line, behind_number)
 }
 
 fn put_line(number: usize, place: usize, sheet: &[u8], line: &mut [u8]) -> usize
@@ -41,19 +31,55 @@ fn put_line(number: usize, place: usize, sheet: &[u8], line: &mut [u8]) -> usize
     ensures { λ r. ⌜ r ≡ length (lineBy number place (now (sheet .entry))) ⌝ }
     ensures { λ _. ⌜ now (line .exit) ≡ sets (now (line .entry)) 0 (lineBy number place (now (sheet .entry))) ⌝ }
 {
-    let behind_number = text::put_field(number, line, 0);
-    let behind_place = text::put_field(place, line, behind_number);
-    let behind_sheet = text::put_sheet(number == 0, sheet, line, behind_place);
-    line[behind_sheet] = b'\n';
-    behind_sheet + 1
+    let behind_place = put_answer(number, place, line);
+    text::put_last(number == 0, sheet, line, behind_place)
 }
 
-// Writes the line of an input in front of the lent one and answers its length.
+// Writes the line of an input of SHEET in front of the lent one and answers its length.
 pub fn line_of(input: &[u8], line: &mut [u8; 128]) -> usize
     ensures { λ r. ⌜ r ≡ length (lineOf (now (input .entry))) ⌝ }
     ensures { λ _. ⌜ now (line .exit) ≡ lineOf (now (input .entry)) ++ drop (length (lineOf (now (input .entry)))) (now (line .entry)) ⌝ }
 {
+    let order = front(input, 24);
+    let vehicles = behind(front(input, 4848), 24);
     let mut sheet = [0u8; LENGTH];
-    let answer = judge::sheet_of_train(vehicle_part(input), order_part(input), &mut sheet);
+    let answer = judge::sheet_of_train(vehicles, order, &mut sheet);
     put_line(number_of(answer), place_of(answer), &sheet, line)
+}
+
+fn put_route_line(
+    number: usize,
+    place: usize,
+    category: usize,
+    speeds: &[u8],
+    line: &mut [u8],
+) -> usize
+    requires { ⌜ (length (now speeds) ≤ 64) × (192 ≤ length (now line)) ⌝ }
+    ensures { λ r. ⌜ r ≡ length (routeLineBy number place category (now (speeds .entry))) ⌝ }
+    ensures { λ _. ⌜ now (line .exit) ≡ sets (now (line .entry)) 0 (routeLineBy number place category (now (speeds .entry))) ⌝ }
+{
+    let behind_place = put_answer(number, place, line);
+    let behind_category = text::put_field(category, line, behind_place);
+    text::put_last(number == 0, speeds, line, behind_category)
+}
+
+// Writes the line of an input of ROUTE in front of the lent one and answers its length.
+pub fn route_line_of(input: &[u8], line: &mut [u8; 256]) -> usize
+    ensures { λ r. ⌜ r ≡ length (routeLineOf (now (input .entry))) ⌝ }
+    ensures { λ _. ⌜ now (line .exit) ≡ routeLineOf (now (input .entry)) ++ drop (length (routeLineOf (now (input .entry)))) (now (line .entry)) ⌝ }
+{
+    let n = first(input);
+    let orders = front(behind(input, 1), 24 * n);
+    let vehicles = front(behind(input, 1 + 24 * n), 4824);
+    let mut speeds = [0u8; 64];
+    let given = route::route_of_train(vehicles, orders, &mut speeds);
+    let answer = given.answer;
+    let shown = front(&speeds, orders.len() / 24);
+    put_route_line(
+        number_of(answer),
+        place_of(answer),
+        text::wide(given.granted),
+        shown,
+        line,
+    )
 }

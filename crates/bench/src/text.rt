@@ -1,10 +1,9 @@
 // Numbers and bytes as text, put into a line from a place on; each answers the place behind it.
 ghost use mathlib.Core.Path.{_≡_};
-ghost use Prim.Native.Nat.{_+_, _*_, _<_, _≤_};
+ghost use Prim.Native.Nat.{_+_, _*_, _<_, _≤_, max};
 ghost use lib.ListN.{length};
 ghost use lib.Seq.{sets};
-ghost use Rattle.sheets.specs.Sheets.{sheetLength};
-ghost use Rattle.bench.specs.Texts.{glyphOf, digits, field, hex, sheetText};
+ghost use Rattle.bench.specs.Texts.{glyphOf, digits, field, hex, bytesText, lastField};
 
 const GLYPHS: [u8; 16] = [
     b'0',
@@ -32,7 +31,7 @@ fn glyph(d: usize) -> u8
     GLYPHS[d]
 }
 
-fn wide(x: u8) -> usize
+pub(crate) fn wide(x: u8) -> usize
     ensures { λ r. ⌜ (r ≡ x) × (r < 256) ⌝ }
 {
     x as usize
@@ -83,15 +82,26 @@ fn put_hex(bytes: &[u8], line: &mut [u8], at: usize) -> usize
     at + 2 * i
 }
 
-// The sheet in hex, or "-" if refused.
-pub(crate) fn put_sheet(done: bool, sheet: &[u8], line: &mut [u8], at: usize) -> usize
-    requires { ⌜ (length (now sheet) ≡ sheetLength) × (at + 2 * sheetLength ≤ length (now line)) ⌝ }
-    ensures { λ r. ⌜ r ≡ at + length (sheetText done (now (sheet .entry))) ⌝ }
-    ensures { λ _. ⌜ now (line .exit) ≡ sets (now (line .entry)) at (sheetText done (now (sheet .entry))) ⌝ }
+// Bytes in hex, or "-" if refused.
+fn put_bytes(done: bool, bytes: &[u8], line: &mut [u8], at: usize) -> usize
+    requires { ⌜ at + max 1 (2 * length (now bytes)) ≤ length (now line) ⌝ }
+    ensures { λ r. ⌜ r ≡ at + length (bytesText done (now (bytes .entry))) ⌝ }
+    ensures { λ _. ⌜ now (line .exit) ≡ sets (now (line .entry)) at (bytesText done (now (bytes .entry))) ⌝ }
 {
     if !done {
         line[at] = b'-';
         return at + 1;
     }
-    put_hex(sheet, line, at)
+    put_hex(bytes, line, at)
+}
+
+// The last field and the line feed that closes the line.
+pub(crate) fn put_last(done: bool, bytes: &[u8], line: &mut [u8], at: usize) -> usize
+    requires { ⌜ at + max 1 (2 * length (now bytes)) < length (now line) ⌝ }
+    ensures { λ r. ⌜ r ≡ at + length (lastField done (now (bytes .entry))) ⌝ }
+    ensures { λ _. ⌜ now (line .exit) ≡ sets (now (line .entry)) at (lastField done (now (bytes .entry))) ⌝ }
+{
+    let behind = put_bytes(done, bytes, line, at);
+    line[behind] = b'\n';
+    behind + 1
 }

@@ -29,9 +29,12 @@ use Rattle.judge.specs.Answers.{accountRefusals, trainAnswer, trainSheet, accou
 use Rattle.judge.specs.declared.Answer.{Answer}
 use Rattle.judge.specs.declared.Answer.the-variants.{AboveCeiling}
 use Rattle.judge.proofs.Demands.{sheet-from-account}
+use Rattle.route.specs.Answers as route
+use Rattle.route.specs.Answers.{grantedFor, speedsFor, routeBy, trainRoute, trainSpeeds, accountRoute, accountSpeeds}
+use Rattle.route.proofs.Demands.{route-from-account}
 use Rattle.travel.specs.AccountRecords.{size, accountIn, isAccount, offered, recordOf}
 use Rattle.travel.proofs.Demands.{read-back-within, within-exactly}
-use Rattle.exports.specs.Lent.{sheetNumber, accountNumber, lentNumber, lentAccount, carried, AllAnswered}
+use Rattle.exports.specs.Lent.{sheetNumber, routeNumber, accountNumber, lentNumber, lentAccount, carried, AllAnswered}
 use borrow.Author.Tests.{le-ltb}
 use Rattle.exports.proofs.Lent.{lent-refused}
 
@@ -82,13 +85,29 @@ module _ (left right : List ℕ) where
       go false q e = absurd (omega (arith, ap account.numberOf e))
 
 -- ---- 7 of engines with an account
-module _ (engines hauled order : List ℕ) (whole : (length engines is 0 || not (isWhole engines)) ≡ false) (bad : isAccount hauled ≡ false) where
-  sheet-answer : (room : ℕ) → accountAnswer engines (offered hauled) order room ≡ AboveCeiling
+module _ (engines hauled : List ℕ) (whole : (length engines is 0 || not (isWhole engines)) ≡ false) (bad : isAccount hauled ≡ false) where
+  sheet-answer : (order : List ℕ) (room : ℕ) → accountAnswer engines (offered hauled) order room ≡ AboveCeiling
   unfolding accountRefusals
-  sheet-answer room = rw (whole, within-exactly hauled ∙ bad)
+  sheet-answer order room = rw (whole, within-exactly hauled ∙ bad)
 
-  pub sheet-refused-seven : (sheet : List ℕ) → (sheetNumber (accountAnswer engines (offered hauled) order (length sheet)) ≡ 7) × (accountSheet engines (offered hauled) order sheet ≡ sheet)
-  sheet-refused-seven sheet = (ap sheetNumber (sheet-answer (length sheet)), ap (λ (a : Answer). written a (sheetFor (factsBeside (vehicles engines) (offered hauled)) (orderOf order)) sheet) (sheet-answer (length sheet)))
+  pub sheet-refused-seven : (order sheet : List ℕ) → (sheetNumber (accountAnswer engines (offered hauled) order (length sheet)) ≡ 7) × (accountSheet engines (offered hauled) order sheet ≡ sheet)
+  sheet-refused-seven order sheet = (ap sheetNumber (sheet-answer order (length sheet)), ap (λ (a : Answer). written a (sheetFor (factsBeside (vehicles engines) (offered hauled)) (orderOf order)) sheet) (sheet-answer order (length sheet)))
+
+  route-answer : (orders : List ℕ) (room : ℕ) → route.accountAnswer engines (offered hauled) orders room ≡ AboveCeiling
+  unfolding route.accountRefusals
+  route-answer orders room = rw (whole, within-exactly hauled ∙ bad)
+
+  pub route-refused-seven : (orders speeds : List ℕ)
+      → (routeNumber (accountRoute engines (offered hauled) orders (length speeds)) ≡ 7)
+      × (accountRoute engines (offered hauled) orders (length speeds) .granted ≡ 0)
+      × (accountSpeeds engines (offered hauled) orders speeds ≡ speeds)
+  route-refused-seven orders speeds =
+      let f = factsBeside (vehicles engines) (offered hauled) in
+      let seven = route-answer orders (length speeds) in (
+        ap (λ (a : Answer). routeNumber (routeBy a (grantedFor f orders))) seven,
+        ap (λ (a : Answer). routeBy a (grantedFor f orders) .granted) seven,
+        ap (λ (a : Answer). written a (speedsFor f orders) speeds) seven,
+      )
 
 -- ---- what the C functions write reads back
 five-of : (xs : List Vehicle) → length (accountOf xs .first) ≡ 5
@@ -134,15 +153,27 @@ module _ (g : Grouping ℕ) (cut : BetweenRecords g) (none : NoneRefused g) wher
   pub grouping-account : offered (carried g) ≡ accounted (uncut g) .account
   grouping-account = grouping-back g none ∙ ap (λ (r : Accounted). r .account) (any-grouping-not-refused g none)
 
+  uncut-done : accounted (uncut g) .answer ≡ account-case.Done
+  uncut-done = sym (ap (λ (r : Accounted). r .answer) (any-grouping-not-refused g none)) ∙ grouping-done g none
+
   pub grouping-sheet : (engines order sheet : List ℕ) → GoodEngines engines → all isWorking (vehicles engines) ≡ true
       → (accountAnswer engines (offered (carried g)) order (length sheet) ≡ trainAnswer (engines ++ uncut g) order (length sheet))
       × (accountSheet engines (offered (carried g)) order sheet ≡ trainSheet (engines ++ uncut g) order sheet)
   grouping-sheet engines order sheet e w =
-      let done = sym (ap (λ (r : Accounted). r .answer) (any-grouping-not-refused g none)) ∙ grouping-done g none in
-      let t = sheet-from-account engines g order sheet e w cut done in
+      let t = sheet-from-account engines g order sheet e w cut uncut-done in
       let b = grouping-back g none in (
         ap (λ (a : Account). accountAnswer engines a order (length sheet)) b ∙ t .0,
         ap (λ (a : Account). accountSheet engines a order sheet) b ∙ t .1,
+      )
+
+  pub grouping-route : (engines orders speeds : List ℕ) → GoodEngines engines → all isWorking (vehicles engines) ≡ true
+      → (accountRoute engines (offered (carried g)) orders (length speeds) ≡ trainRoute (engines ++ uncut g) orders (length speeds))
+      × (accountSpeeds engines (offered (carried g)) orders speeds ≡ trainSpeeds (engines ++ uncut g) orders speeds)
+  grouping-route engines orders speeds e w =
+      let t = route-from-account engines g orders speeds e w cut uncut-done in
+      let b = grouping-back g none in (
+        ap (λ (a : Account). accountRoute engines a orders (length speeds)) b ∙ t .0,
+        ap (λ (a : Account). accountSpeeds engines a orders speeds) b ∙ t .1,
       )
 
 -- ---- from the records alone

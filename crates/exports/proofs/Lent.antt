@@ -1,4 +1,4 @@
--- Laws of what is answered and lent: a number is small, and a place is that of one of 200 records. Assumes nothing.
+-- Laws of what is answered and lent: a number is small, and a place is that of one of 200 records or 64 sections. Assumes nothing.
 use Prim.Native.Nat.{ℕ, zero, suc, _+_, _*_, _≤_, _<_}
 use mathlib.Core.Path.{_≡_, refl, sym, ap, _∙_}
 use mathlib.Core.Bool.{Bool, true, false, not, _||_, _&&_, cond}
@@ -22,9 +22,14 @@ use Rattle.account.specs.declared.Accounted.{Accounted}
 use Rattle.account.specs.declared.Answer as account-answer
 use Rattle.account.specs.declared.Answer.the-variants as account-case
 use Rattle.record.proofs.Figures.{leading-le}
-use Rattle.judge.specs.Answers.{numberOf, placeOf, trainRefusals, trainAnswer, accountRefusals, accountAnswer, orderRefusals, trainShape, engineShape}
+use Rattle.record.proofs.Lists.{neither, every-append}
+use Rattle.sections.specs.Sections.{askedIn, goodSection, leadingGood}
+use Rattle.judge.specs.Answers.{numberOf, placeOf, trainAround, trainRefusals, trainAnswer, accountAround, accountRefusals, accountAnswer, orderRefusals, trainShape, engineShape}
 use Rattle.judge.specs.declared.Answer.{Answer}
 use Rattle.judge.specs.declared.Answer.the-variants.{Done, NotWhole, TooMany, BadField, BadOrder, ShortSheet, AboveCeiling, NotWorking, WorkingBehind, ManyEngines, NothingHauled}
+use Rattle.route.specs.Answers as route
+use Rattle.route.specs.Answers.{sectionRefusals, trainRoute, accountRoute}
+use Rattle.route.specs.declared.Route.{Route}
 use Rattle.travel.specs.AccountRecords.{size, recordOf}
 use Rattle.exports.specs.Lent.{accountNumber, lentNumber, lentAccount, lentVehicle}
 
@@ -33,7 +38,7 @@ number-small Done = omega arith
 number-small NotWhole = omega arith
 number-small TooMany = omega arith
 number-small (BadField place) = omega arith
-number-small BadOrder = omega arith
+number-small (BadOrder place) = omega arith
 number-small ShortSheet = omega arith
 number-small AboveCeiling = omega arith
 number-small NotWorking = omega arith
@@ -63,20 +68,62 @@ module _ {A : Type 0} (place : A → ℕ) where
       go true e = h
       go false e = either bad badField rest (omega (arith, b, place-in bs, few, ltb-false 200 n e)) k
 
-pub train-place : (bs order : List ℕ) (room : ℕ) → placeOf (trainAnswer bs order room) ≤ 200
-unfolding trainRefusals
-train-place bs order room =
+-- whatever is lent beside a train, or beside engines with an account
+around-train : (bs : List ℕ) (lent : List (Case Answer)) → placeOf (firstOf Done (lent ++ trainShape (vehicles bs))) ≤ 200 → placeOf (firstOf Done (trainAround bs lent)) ≤ 200
+around-train bs lent h =
     either placeOf (length bs is 0 || not (isWhole bs)) NotWhole _ (omega arith)
-    (many-or-bad placeOf bs (recordCount bs) TooMany (BadField (leading good (recordsOf bs))) _ (not (all good (recordsOf bs))) (omega arith) (omega arith) refl
-    (first-place placeOf Done (orderRefusals order room ++ trainShape (vehicles bs)) (omega arith) (omega arith)))
+    (many-or-bad placeOf bs (recordCount bs) TooMany (BadField (leading good (recordsOf bs))) _ (not (all good (recordsOf bs))) (omega arith) (omega arith) refl h)
 
-pub account-place : (bs : List ℕ) (hauled : Account) (order : List ℕ) (room : ℕ) → placeOf (accountAnswer bs hauled order room) ≤ 200
-unfolding accountRefusals
-account-place bs hauled order room =
+around-account : (bs : List ℕ) (hauled : Account) (lent : List (Case Answer)) → placeOf (firstOf Done (lent ++ engineShape (vehicles bs) hauled)) ≤ 200
+    → placeOf (firstOf Done (accountAround bs hauled lent)) ≤ 200
+around-account bs hauled lent h =
     either placeOf (length bs is 0 || not (isWhole bs)) NotWhole _ (omega arith)
     (either placeOf (not (within hauled)) AboveCeiling _ (omega arith)
-    (many-or-bad placeOf bs (recordCount bs + hauled .count) TooMany (BadField (leading good (recordsOf bs))) _ (not (all good (recordsOf bs))) (omega arith) (omega arith) refl
-    (first-place placeOf Done (orderRefusals order room ++ engineShape (vehicles bs) hauled) (omega arith) (omega arith))))
+    (many-or-bad placeOf bs (recordCount bs + hauled .count) TooMany (BadField (leading good (recordsOf bs))) _ (not (all good (recordsOf bs))) (omega arith) (omega arith) refl h))
+
+pub train-place : (answer : Answer) (bs order : List ℕ) (room : ℕ) → answer ≡ trainAnswer bs order room → placeOf answer ≤ 200
+unfolding trainRefusals
+train-place answer bs order room e =
+    omega (arith, ap placeOf e, around-train bs (orderRefusals order room) (first-place placeOf Done (orderRefusals order room ++ trainShape (vehicles bs)) (omega arith) (omega arith)))
+
+pub account-place : (answer : Answer) (bs : List ℕ) (hauled : Account) (order : List ℕ) (room : ℕ) → answer ≡ accountAnswer bs hauled order room → placeOf answer ≤ 200
+unfolding accountRefusals
+account-place answer bs hauled order room e =
+    omega (arith, ap placeOf e, around-account bs hauled (orderRefusals order room) (first-place placeOf Done (orderRefusals order room ++ engineShape (vehicles bs) hauled) (omega arith) (omega arith)))
+
+-- on a route more than 64 sections are refused before the place of one is given
+section-in : (orders : List ℕ) → leadingGood orders ≤ recordCount orders
+section-in orders = omega (arith, leading-le (goodSection (askedIn orders)) (recordsOf orders), length-records (recordCount orders) orders)
+
+abbrev noSections : List ℕ → Bool
+noSections orders = not (isWhole orders) || recordCount orders is 0 || recordCount orders above 64
+
+few-sections : (orders : List ℕ) → noSections orders ≡ false → recordCount orders ≤ 64
+few-sections orders e = ltb-false 64 (recordCount orders) (neither (not (isWhole orders) || recordCount orders is 0) (recordCount orders above 64) e .1)
+
+sections-place : (orders : List ℕ) (room : ℕ) (behind : List (Case Answer)) → Every (λ c. placeOf (c .gives) ≤ 200) behind → placeOf (firstOf Done (sectionRefusals orders room ++ behind)) ≤ 200
+sections-place orders room behind h = go (noSections orders) refl
+  where
+    rest : List (Case Answer)
+    rest = drop 1 (sectionRefusals orders room) ++ behind
+
+    go : (b : Bool) → noSections orders ≡ b → placeOf (cond b (BadOrder 0) (firstOf Done rest)) ≤ 200
+    go true e = omega arith
+    go false e = first-place placeOf Done rest (omega arith) (omega (arith, section-in orders, few-sections orders e), (omega arith, h))
+
+train-route-answer : (bs orders : List ℕ) (room : ℕ) → placeOf (route.trainAnswer bs orders room) ≤ 200
+unfolding route.trainRefusals
+train-route-answer bs orders room = around-train bs (sectionRefusals orders room) (sections-place orders room (trainShape (vehicles bs)) (omega arith))
+
+pub train-route-place : (r : Route) (bs orders : List ℕ) (room : ℕ) → r ≡ trainRoute bs orders room → placeOf (r .answer) ≤ 200
+train-route-place r bs orders room e = omega (arith, ap (λ (r : Route). placeOf (r .answer)) e, train-route-answer bs orders room)
+
+account-route-answer : (bs : List ℕ) (hauled : Account) (orders : List ℕ) (room : ℕ) → placeOf (route.accountAnswer bs hauled orders room) ≤ 200
+unfolding route.accountRefusals
+account-route-answer bs hauled orders room = around-account bs hauled (sectionRefusals orders room) (sections-place orders room (engineShape (vehicles bs) hauled) (omega arith))
+
+pub account-route-place : (r : Route) (bs : List ℕ) (hauled : Account) (orders : List ℕ) (room : ℕ) → r ≡ accountRoute bs hauled orders room → placeOf (r .answer) ≤ 200
+account-route-place r bs hauled orders room e = omega (arith, ap (λ (r : Route). placeOf (r .answer)) e, account-route-answer bs hauled orders room)
 
 -- ---- an account that is lent
 pub account-number-small : (answer : account-answer.Answer) → account.numberOf answer ≤ 7
@@ -151,10 +198,6 @@ first-with-one P p (r ∷ rs) h = go (p r) (first-with-one P p rs (h .1))
     go true e = inl (h .0)
     go false e = e
 
-every-append : {A : Type 0} (P : A → Type 0) (xs ys : List A) → Every P xs → Every P ys → Every P (xs ++ ys)
-every-append P [] ys h k = k
-every-append P (x ∷ xs) ys h k = (h .0, every-append P xs ys (h .1) k)
-
 records-long : (n : ℕ) (bs : List ℕ) → 24 * n ≤ length bs → Every (λ r. length r ≡ 24) (records n bs)
 unfolding records
 records-long zero bs h = tt
@@ -170,8 +213,12 @@ vehicle-or-none front back = go (wholeGood front && wholeGood back && recordCoun
         (every-append (λ (r : List ℕ). length r ≡ 24) (recordsOf front) (recordsOf back) (records-long (recordCount front) front (omega arith)) (records-long (recordCount back) back (omega arith)))
     go false = inr refl
 
-pub vehicle-fits : (front back : List ℕ) → length (holdsTheSpeed front back) ≤ 24
-vehicle-fits front back = ⊎-elim (λ (e : length (holdsTheSpeed front back) ≡ 24). omega arith) (λ (e : holdsTheSpeed front back ≡ []). omega (arith, ap length e)) (vehicle-or-none front back)
+pub vehicle-fits : (part front back : List ℕ) → part ≡ holdsTheSpeed front back → length part ≤ 24
+vehicle-fits part front back e =
+    ⊎-elim
+    (λ (h : length (holdsTheSpeed front back) ≡ 24). omega (arith, ap length e))
+    (λ (h : holdsTheSpeed front back ≡ []). omega (arith, ap length (e ∙ h)))
+    (vehicle-or-none front back)
 
 module _ (front back : List ℕ) (room : ℕ) where
   pub vehicle-none : room < 24 → [] ≡ lentVehicle front back room

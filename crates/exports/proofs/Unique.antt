@@ -17,6 +17,12 @@ use Rattle.exports.proofs.prskavon_join.Reads as join-reads
 use Rattle.exports.proofs.prskavon_sheet_of_account as sheet-of-account
 use Rattle.exports.proofs.prskavon_sheet_of_account.Kinds as sheet-of-account-kinds
 use Rattle.exports.proofs.prskavon_sheet_of_account.Reads as sheet-of-account-reads
+use Rattle.exports.proofs.prskavon_route_of_train as route-of-train
+use Rattle.exports.proofs.prskavon_route_of_train.Kinds as route-of-train-kinds
+use Rattle.exports.proofs.prskavon_route_of_train.Reads as route-of-train-reads
+use Rattle.exports.proofs.prskavon_route_of_account as route-of-account
+use Rattle.exports.proofs.prskavon_route_of_account.Kinds as route-of-account-kinds
+use Rattle.exports.proofs.prskavon_route_of_account.Reads as route-of-account-reads
 use Rattle.exports.proofs.prskavon_holds_the_speed as holds-the-speed
 use Rattle.exports.proofs.prskavon_holds_the_speed.Kinds as holds-the-speed-kinds
 use Rattle.exports.proofs.prskavon_holds_the_speed.Reads as holds-the-speed-reads
@@ -36,6 +42,14 @@ join-unique κs a s s′ p q = (p .0 ∙ sym (q .0), p .1 ∙ sym (q .1))
 pub sheet-of-account-unique : (κs : Lfts 4) (a : ArgsD sheet-of-account.signature κs) {r r′ : ResD sheet-of-account.signature κs} (s s′ : AtExit (endedOf 4 sheet-of-account-kinds.ps sheet-of-account-kinds.r) κs)
     → sheet-of-account-reads.Post κs a r s → sheet-of-account-reads.Post κs a r′ s′ → (r ≡ r′) × (now (s .1 .1 .1 .0) ≡ now (s′ .1 .1 .1 .0))
 sheet-of-account-unique κs a s s′ p q = (p .0 ∙ sym (q .0), p .1 ∙ sym (q .1))
+
+pub route-of-train-unique : (κs : Lfts 3) (a : ArgsD route-of-train.signature κs) {r r′ : ResD route-of-train.signature κs} (s s′ : AtExit (endedOf 3 route-of-train-kinds.ps route-of-train-kinds.r) κs)
+    → route-of-train-reads.Post κs a r s → route-of-train-reads.Post κs a r′ s′ → (r ≡ r′) × (now (s .1 .1 .0) ≡ now (s′ .1 .1 .0))
+route-of-train-unique κs a s s′ p q = (p .0 ∙ sym (q .0), p .1 ∙ sym (q .1))
+
+pub route-of-account-unique : (κs : Lfts 4) (a : ArgsD route-of-account.signature κs) {r r′ : ResD route-of-account.signature κs} (s s′ : AtExit (endedOf 4 route-of-account-kinds.ps route-of-account-kinds.r) κs)
+    → route-of-account-reads.Post κs a r s → route-of-account-reads.Post κs a r′ s′ → (r ≡ r′) × (now (s .1 .1 .1 .0) ≡ now (s′ .1 .1 .1 .0))
+route-of-account-unique κs a s s′ p q = (p .0 ∙ sym (q .0), p .1 ∙ sym (q .1))
 
 pub holds-the-speed-unique : (κs : Lfts 2) (a : ArgsD holds-the-speed.signature κs) {r r′ : ResD holds-the-speed.signature κs} (s s′ : AtExit (endedOf 2 holds-the-speed-kinds.ps holds-the-speed-kinds.r) κs)
     → holds-the-speed-reads.Post κs a r s → holds-the-speed-reads.Post κs a r′ s′ → (r ≡ r′) × (now (s .1 .1 .0) ≡ now (s′ .1 .1 .0))

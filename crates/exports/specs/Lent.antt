@@ -13,6 +13,7 @@ use Rattle.account.specs.declared.Accounted.{Accounted}
 use Rattle.account.specs.declared.Answer as account-answer
 use Rattle.judge.specs.Answers as judge
 use Rattle.judge.specs.declared.Answer.{Answer}
+use Rattle.route.specs.declared.Route.{Route}
 use Rattle.travel.specs.AccountRecords.{size, offered, recordOf}
 
 -- an answer as one number
@@ -21,6 +22,10 @@ oneNumber number place = number + 256 * place
 
 abbrev pub sheetNumber : Answer → ℕ
 sheetNumber answer = oneNumber (judge.numberOf answer) (judge.placeOf answer)
+
+-- of a route, with the category granted above number and place
+abbrev pub routeNumber : Route → ℕ
+routeNumber r = sheetNumber (r .answer) + 4294967296 * r .granted
 
 abbrev pub accountNumber : account-answer.Answer → ℕ
 accountNumber answer = oneNumber (account.numberOf answer) (account.placeOf answer)

@@ -35,7 +35,7 @@ fn place_of(answer: Answer) -> usize
     }
 }
 
-// Number and place as one number; a place is that of one of 200 records.
+// Number and place as one number; a place is that of one of 200 records, or of 64 sections.
 pub(crate) fn one_number(number: usize, place: usize) -> u64
     requires { ⌜ (number < 256) × (place ≤ 200) ⌝ }
     ensures { λ r. ⌜ r ≡ oneNumber number place ⌝ }

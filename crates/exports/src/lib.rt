@@ -4,8 +4,9 @@ ghost use Prim.Native.Nat.{_≤_};
 ghost use lib.ListN.{length};
 ghost use Rattle.account.specs.Portions.{accounted, joined};
 ghost use Rattle.judge.specs.Answers.{placeOf, trainAnswer, trainSheet, accountAnswer, accountSheet};
+ghost use Rattle.route.specs.Answers.{trainRoute, trainSpeeds, accountRoute, accountSpeeds};
 ghost use Rattle.travel.specs.AccountRecords.{offered};
-ghost use Rattle.exports.specs.Lent.{sheetNumber, lentNumber, lentAccount, lentVehicle, lentRoom};
+ghost use Rattle.exports.specs.Lent.{sheetNumber, routeNumber, lentNumber, lentAccount, lentVehicle, lentRoom};
 use account::account_of;
 use account::holds_the_speed;
 use account::join;
@@ -17,6 +18,9 @@ use judge::sheet_of_train;
 use lend::lend;
 use lend::one_number;
 use record::vehicle::SIZE;
+use route::Route;
+use route::route_of_account;
+use route::route_of_train;
 use travel::offered_by;
 
 mod lend;
@@ -27,6 +31,15 @@ fn sheet_number(answer: Answer) -> u64
     ensures { λ r. ⌜ r ≡ sheetNumber answer ⌝ }
 {
     one_number(number_of(answer), place_of(answer))
+}
+
+// An answer of the route library: the same number, and the category granted above it.
+fn route_number(route: Route) -> u64
+    requires { ⌜ placeOf (route .answer) ≤ 200 ⌝ }
+    ensures { λ r. ⌜ r ≡ routeNumber route ⌝ }
+{
+    let answer = route.answer;
+    sheet_number(answer) + 4294967296 * route.granted as u64
 }
 
 // The sheet of a whole train.
@@ -68,6 +81,29 @@ pub extern "C" fn prskavon_sheet_of_account(
     ensures { λ _. ⌜ now (sheet .exit) ≡ accountSheet (now (engines .entry)) (offered (now (hauled .entry))) (now (order .entry)) (now (sheet .entry)) ⌝ }
 {
     sheet_number(sheet_of_account(engines, offered_by(hauled), order, sheet))
+}
+
+// The route of a whole train: one order record a section, one byte lent for each.
+#[no_mangle]
+pub extern "C" fn prskavon_route_of_train(vehicles: &[u8], orders: &[u8], speeds: &mut [u8]) -> u64
+    ensures { λ r. ⌜ r ≡ routeNumber (trainRoute (now (vehicles .entry)) (now (orders .entry)) (length (now (speeds .entry)))) ⌝ }
+    ensures { λ _. ⌜ now (speeds .exit) ≡ trainSpeeds (now (vehicles .entry)) (now (orders .entry)) (now (speeds .entry)) ⌝ }
+{
+    route_number(route_of_train(vehicles, orders, speeds))
+}
+
+// The route of working engines lent apart, with the account of what they haul.
+#[no_mangle]
+pub extern "C" fn prskavon_route_of_account(
+    engines: &[u8],
+    hauled: &[u8],
+    orders: &[u8],
+    speeds: &mut [u8],
+) -> u64
+    ensures { λ r. ⌜ r ≡ routeNumber (accountRoute (now (engines .entry)) (offered (now (hauled .entry))) (now (orders .entry)) (length (now (speeds .entry)))) ⌝ }
+    ensures { λ _. ⌜ now (speeds .exit) ≡ accountSpeeds (now (engines .entry)) (offered (now (hauled .entry))) (now (orders .entry)) (now (speeds .entry)) ⌝ }
+{
+    route_number(route_of_account(engines, offered_by(hauled), orders, speeds))
 }
 
 // Copies the vehicle that holds the speed, and answers how many bytes it copied.

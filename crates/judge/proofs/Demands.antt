@@ -1,6 +1,6 @@
 -- The demands, as far as a train and its sheet go: the theorems, over the definitions of specs/. Assumes nothing.
 use Prim.Native.Nat.{ℕ, _≤_}
-use mathlib.Core.Path.{_≡_, refl, ap, _∙_}
+use mathlib.Core.Path.{_≡_, refl, sym, ap, ap₂, _∙_}
 use mathlib.Core.Logic.{_⊎_}
 use mathlib.Core.Bool.{true, false}
 use mathlib.Core.List.{List, [], _∷_, _++_, map}
@@ -21,13 +21,18 @@ use Rattle.order.specs.declared.Order.{Order}
 use Rattle.facts.specs.Engines.{GoodEngines}
 use Rattle.facts.specs.Facts.{factsOf, factsBeside, Bounded}
 use Rattle.facts.specs.declared.Facts.{Facts}
-use Rattle.sheets.specs.Sheets.{sheetLength}
-use Rattle.judge.specs.Answers.{numberOf, placeOf, isDone, trainRefusals, trainAnswer, trainSheet, accountRefusals, accountAnswer, accountSheet, sheetFor, written}
+use Rattle.judge.specs.Answers.{numberOf, placeOf, isDone, orderRefusals, recordRefusals, trainShape, trainAround, trainRefusals, trainAnswer, trainSheet, engineRefusals, engineShape, accountAround, accountRefusals, accountAnswer, accountSheet, sheetFor, written}
+use Rattle.judge.specs.Judging.{Refusing, lentAs, trainJudged, accountJudged, judgedBy}
 use Rattle.judge.specs.Shown.{Shows}
 use Rattle.judge.specs.declared.Answer.{Answer}
 use Rattle.judge.specs.declared.Answer.the-variants.{Done}
 use Rattle.judge.proofs.Bounds.{bounded-train, bounded-account}
-use Rattle.judge.proofs.Joint.{sheets-same}
+use Rattle.judge.proofs.Answers.{done-is, all-passed, around-lent, around-groups, none-of}
+use Rattle.judge.proofs.Engines as engines
+use Rattle.judge.proofs.Engines.{engineAnswer, engines-refusing}
+use Rattle.judge.proofs.Trains as trains
+use Rattle.judge.proofs.Trains.{recordAnswer, records-refusing}
+use Rattle.judge.proofs.Joint.{answers-same, facts-joint}
 use Rattle.judge.proofs.Sheets.{sheet-long}
 use Rattle.judge.proofs.Shown.{shows-done}
 
@@ -59,14 +64,59 @@ answered-in-order rs f = first-applies Done rs (f .place) (f .within) (f .applie
 pub first-or-done : (rs : List (Case Answer)) → First Done rs ⊎ Every (λ r. r .applies ≡ false) rs
 first-or-done = first-or-none Done
 
+-- 0 is the number of the answer that is done, and of no other
+pub done-only : (answer : Answer) → isDone answer ≡ true → answer ≡ Done
+done-only = done-is
+
 pub done-when-none-applies : (rs : List (Case Answer)) → Every (λ r. r .applies ≡ false) rs → firstOf Done rs ≡ Done
 done-when-none-applies = none-applies Done
 
--- a refused sheet is not written at all; a done call writes a sheet over its first bytes and no other
+-- what is lent beside a train, answered first and given as one answer, changes nothing
+pub train-judged : (bs : List ℕ) (lent : List (Case Answer)) → Refusing lent → trainJudged bs (firstOf Done lent) ≡ judgedBy (firstOf Done (trainAround bs lent)) (factsOf (vehicles bs))
+unfolding trainJudged
+train-judged bs lent n = ap (λ (a : Answer). judgedBy a (factsOf (vehicles bs))) (sym (around-lent (recordRefusals bs) lent (trainShape (vehicles bs)) (records-refusing bs) n))
+
+pub account-judged : (bs : List ℕ) (hauled : Account) (lent : List (Case Answer)) → Refusing lent
+    → accountJudged bs hauled (firstOf Done lent) ≡ judgedBy (firstOf Done (accountAround bs hauled lent)) (factsBeside (vehicles bs) hauled)
+unfolding accountJudged
+account-judged bs hauled lent n =
+    ap (λ (a : Answer). judgedBy a (factsBeside (vehicles bs) hauled)) (sym (around-lent (engineRefusals bs hauled) lent (engineShape (vehicles bs) hauled) (engines-refusing bs hauled) n))
+
+-- and what answers the same gives the same
+pub train-around-same : (bs : List ℕ) (lent other : List (Case Answer)) → Refusing lent → Refusing other → firstOf Done lent ≡ firstOf Done other
+    → firstOf Done (trainAround bs lent) ≡ firstOf Done (trainAround bs other)
+train-around-same bs lent other n m e =
+    around-lent (recordRefusals bs) lent (trainShape (vehicles bs)) (records-refusing bs) n
+    ∙ ap (λ (a : Answer). firstOf Done (trainAround bs (lentAs a))) e
+    ∙ sym (around-lent (recordRefusals bs) other (trainShape (vehicles bs)) (records-refusing bs) m)
+
+pub account-around-same : (bs : List ℕ) (hauled : Account) (lent other : List (Case Answer)) → Refusing lent → Refusing other → firstOf Done lent ≡ firstOf Done other
+    → firstOf Done (accountAround bs hauled lent) ≡ firstOf Done (accountAround bs hauled other)
+account-around-same bs hauled lent other n m e =
+    around-lent (engineRefusals bs hauled) lent (engineShape (vehicles bs) hauled) (engines-refusing bs hauled) n
+    ∙ ap (λ (a : Answer). firstOf Done (accountAround bs hauled (lentAs a))) e
+    ∙ sym (around-lent (engineRefusals bs hauled) other (engineShape (vehicles bs) hauled) (engines-refusing bs hauled) m)
+
+-- where the whole is done, nothing of what is lent is refused
+pub train-lent : (bs : List ℕ) (lent : List (Case Answer)) → Refusing lent → isDone (firstOf Done (trainAround bs lent)) ≡ true → Every (λ r. r .applies ≡ false) lent
+train-lent bs lent n d =
+    none-of lent n
+    (all-passed (firstOf Done (trainAround bs lent)) (recordAnswer bs) (firstOf Done lent) (trains.shapeAnswer bs)
+    (around-lent (recordRefusals bs) lent (trainShape (vehicles bs)) (records-refusing bs) n ∙ around-groups (recordRefusals bs) (firstOf Done lent) (trainShape (vehicles bs)) (records-refusing bs))
+    d .1)
+
+pub account-lent : (bs : List ℕ) (hauled : Account) (lent : List (Case Answer)) → Refusing lent → isDone (firstOf Done (accountAround bs hauled lent)) ≡ true → Every (λ r. r .applies ≡ false) lent
+account-lent bs hauled lent n d =
+    none-of lent n
+    (all-passed (firstOf Done (accountAround bs hauled lent)) (engineAnswer bs hauled) (firstOf Done lent) (engines.shapeAnswer bs hauled)
+    (around-lent (engineRefusals bs hauled) lent (engineShape (vehicles bs) hauled) (engines-refusing bs hauled) n ∙ around-groups (engineRefusals bs hauled) (firstOf Done lent) (engineShape (vehicles bs) hauled) (engines-refusing bs hauled))
+    d .1)
+
+-- a refused call writes nothing at all; a done call writes its bytes over the first of those lent and no other
 pub refused-unwritten : (answer : Answer) (bytes sheet : List ℕ) → isDone answer ≡ false → written answer bytes sheet ≡ sheet
 refused-unwritten answer bytes sheet e = rw e
 
-pub done-written : (bytes sheet : List ℕ) → written Done bytes sheet ≡ bytes ++ drop sheetLength sheet
+pub done-written : (bytes sheet : List ℕ) → written Done bytes sheet ≡ bytes ++ drop (length bytes) sheet
 done-written bytes sheet = refl
 
 pub thirty-two : (f : Facts) (o : Order) → length (sheetFor f o) ≡ 32
@@ -97,18 +147,31 @@ pub account-bounded : (bs : List ℕ) (hauled : Account) (order : List ℕ) (roo
 account-bounded = bounded-account
 
 -- ---- demand 3, second half
--- with one or two good working engines in front and any order, the account, the engines and the order give the same refusal or sheet as the uncut train,
--- for portions cut anywhere between records and joined in any grouping
+-- with one or two good working engines in front, portions cut anywhere between records and joined in any grouping,
+-- the account and the engines give the refusals of the uncut train, whatever is lent beside, and its facts
+module _ (engines : List ℕ) (g : Grouping ℕ) (e : GoodEngines engines) (working : all isWorking (vehicles engines) ≡ true) (cut : BetweenRecords g) (done : accounted (uncut g) .answer ≡ Accepted) where
+  joined-is : joinedBytes g .account ≡ accounted (uncut g) .account
+  joined-is = ap (λ (r : Accounted). r .account) (any-grouping-of-bytes g cut done)
+
+  pub answer-from-account : (lent : List (Case Answer)) → firstOf Done (accountAround engines (joinedBytes g .account) lent) ≡ firstOf Done (trainAround (engines ++ uncut g) lent)
+  answer-from-account lent =
+      ap (λ (a : Account). firstOf Done (accountAround engines a lent)) joined-is
+      ∙ answers-same engines (uncut g) lent e working (portion-done-exactly (uncut g) .0 done)
+
+  pub facts-from-account : factsBeside (vehicles engines) (joinedBytes g .account) ≡ factsOf (vehicles (engines ++ uncut g))
+  facts-from-account =
+      ap (factsBeside (vehicles engines)) joined-is
+      ∙ facts-joint engines (uncut g) [] e working (portion-done-exactly (uncut g) .0 done)
+
+-- so with any order, the same refusal or sheet
 module _ (engines : List ℕ) (g : Grouping ℕ) (order sheet : List ℕ) (e : GoodEngines engines) (working : all isWorking (vehicles engines) ≡ true) (cut : BetweenRecords g) where
   pub sheet-from-account : accounted (uncut g) .answer ≡ Accepted
       → (accountAnswer engines (joinedBytes g .account) order (length sheet) ≡ trainAnswer (engines ++ uncut g) order (length sheet))
       × (accountSheet engines (joinedBytes g .account) order sheet ≡ trainSheet (engines ++ uncut g) order sheet)
+  unfolding accountRefusals trainRefusals
   sheet-from-account done =
-      let j = ap (λ (r : Accounted). r .account) (any-grouping-of-bytes g cut done) in
-      let t = sheets-same engines (uncut g) order sheet e working (portion-done-exactly (uncut g) .0 done) in (
-        ap (λ (a : Account). accountAnswer engines a order (length sheet)) j ∙ t .0,
-        ap (λ (a : Account). accountSheet engines a order sheet) j ∙ t .1,
-      )
+      let a = answer-from-account engines g e working cut done (orderRefusals order (length sheet)) in
+      (a, ap₂ (λ (x : Answer) (f : Facts). written x (sheetFor f (orderOf order)) sheet) a (facts-from-account engines g e working cut done))
 
   -- from the records alone: each good, none a working engine, at most 200; then no call is refused
   pub sheet-from-portions : GoodPortion (uncut g)
@@ -118,5 +181,8 @@ module _ (engines : List ℕ) (g : Grouping ℕ) (order sheet : List ℕ) (e : G
       × (accountSheet engines (joinedBytes g .account) order sheet ≡ trainSheet (engines ++ uncut g) order sheet)
   sheet-from-portions good =
       let d = any-grouping-done g cut good in
-      let s = sheet-from-account (ap (λ (r : Accounted). r .answer) (portion-done-exactly (uncut g) .1 good)) in
+      let s = sheet-from-account (portion-done good) in
       (d .0, ap (λ (r : Accounted). r .account) (d .1), s .0, s .1)
+    where
+      portion-done : GoodPortion (uncut g) → accounted (uncut g) .answer ≡ Accepted
+      portion-done good = ap (λ (r : Accounted). r .answer) (portion-done-exactly (uncut g) .1 good)

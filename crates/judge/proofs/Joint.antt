@@ -1,8 +1,8 @@
--- Good working engines in front of a portion that has an account: the account, the engines and the order give what the uncut train gives. Assumes nothing.
+-- Good working engines in front of a portion that has an account: with it they give what the uncut train gives, whatever is lent beside. Assumes nothing.
 use Prim.Native.Nat.{ℕ, _+_, _%_, _≤_}
 use native.Mathlib.Omega.{arith}
-use mathlib.Core.Path.{_≡_, sym, ap, ap₂, _∙_}
-use mathlib.Core.Bool.{Bool, true, false, not, _&&_, _||_}
+use mathlib.Core.Path.{_≡_, refl, sym, ap, ap₂, _∙_}
+use mathlib.Core.Bool.{Bool, true, false, not, _&&_, _||_, cond}
 use mathlib.Core.List.{List, [], _∷_, _++_}
 use borrow.Author.Tests.{eq-eqb, ne-eqb, eqb-true}
 use lib.Dec.{eqb, ltb}
@@ -21,17 +21,20 @@ use Rattle.account.specs.Portions.{accounted}
 use Rattle.account.specs.declared.Accounted.{Accounted}
 use Rattle.account.specs.Groupings.{GoodPortion}
 use Rattle.account.proofs.Demands.{portion-done-exactly, portion-of, portion-within, hauled-not-working}
-use Rattle.order.specs.Orders.{orderOf}
 use Rattle.facts.specs.Engines.{GoodEngines}
 use Rattle.facts.specs.Facts.{workingOf, hauledOf, factsOf, factsBeside, Working}
-use Rattle.facts.specs.declared.Facts.{Facts}
 use Rattle.facts.proofs.Demands.{working-is, hauled-is, facts-agree}
-use Rattle.judge.specs.Answers.{refusal, orderRefusals, trainRefusals, trainAnswer, trainSheet, accountRefusals, accountAnswer, accountSheet, sheetFor, written}
+use Rattle.judge.specs.Answers.{refusal, trainAround, accountAround}
 use Rattle.judge.specs.declared.Answer.{Answer}
 use Rattle.judge.specs.declared.Answer.the-variants.{Done, TooMany, ManyEngines, NothingHauled}
 use Rattle.judge.proofs.Trains.{working-each}
 
-module _ (engines hauled order : List ℕ) (room : ℕ) (e : GoodEngines engines) (working : all isWorking (vehicles engines) ≡ true) (s : GoodPortion hauled) where
+-- behind any cases, what answers the same
+behind-same : (lent xs ys : List (Case Answer)) → firstOf Done xs ≡ firstOf Done ys → firstOf Done (lent ++ xs) ≡ firstOf Done (lent ++ ys)
+behind-same [] xs ys e = e
+behind-same (c ∷ lent) xs ys e = ap (cond (c .applies) (c .gives)) (behind-same lent xs ys e)
+
+module _ (engines hauled : List ℕ) (lent : List (Case Answer)) (e : GoodEngines engines) (working : all isWorking (vehicles engines) ≡ true) (s : GoodPortion hauled) where
   engines-whole : length engines % 24 ≡ 0
   engines-whole = eqb-true (length engines % 24) 0 (e .whole)
 
@@ -83,22 +86,26 @@ module _ (engines hauled order : List ℕ) (room : ℕ) (e : GoodEngines engines
   account-within = ap within account-is ∙ portion-within (vehicles hauled) (portion-of hauled s)
 
   -- what is left of both lists
+  abbrev late : List (Case Answer)
+  late = refusal ManyEngines (ltb 2 (recordCount engines)) ∷ refusal NothingHauled (eqb (recordCount hauled) 0) ∷ []
+
+  left-of : (xs : List (Case Answer)) → firstOf Done xs ≡ firstOf Done late → cond (ltb 200 (recordCount engines + recordCount hauled)) TooMany (firstOf Done (lent ++ xs)) ≡ cond (ltb 200 (recordCount engines + recordCount hauled)) TooMany (firstOf Done (lent ++ late))
+  left-of xs e = ap (cond (ltb 200 (recordCount engines + recordCount hauled)) TooMany) (behind-same lent xs late e)
+
   abbrev left : List (Case Answer)
   left =
       refusal TooMany (ltb 200 (recordCount engines + recordCount hauled))
-      ∷ (orderRefusals order room ++ (refusal ManyEngines (ltb 2 (recordCount engines)) ∷ refusal NothingHauled (eqb (recordCount hauled) 0) ∷ []))
+      ∷ (lent ++ late)
 
-  train-left : trainAnswer (engines ++ hauled) order room ≡ firstOf Done left
-  unfolding trainRefusals
+  train-left : firstOf Done (trainAround (engines ++ hauled) lent) ≡ firstOf Done left
   train-left =
-      simp (train-whole, ap (ltb 200) train-count, train-fine, train-first, ap (some isWorking) train-rest ∙ none-behind, ap length train-working ∙ length-vehicles (recordCount engines) engines, ap length train-rest ∙ length-vehicles (recordCount hauled) hauled)
+      simp (train-whole, ap (ltb 200) train-count, train-fine, train-first, ap (some isWorking) train-rest ∙ none-behind, ap length train-working ∙ length-vehicles (recordCount engines) engines, ap length train-rest ∙ length-vehicles (recordCount hauled) hauled) (left-of _ refl)
 
-  account-left : accountAnswer engines (accounted hauled .account) order room ≡ firstOf Done left
-  unfolding accountRefusals
+  account-left : firstOf Done (accountAround engines (accounted hauled .account) lent) ≡ firstOf Done left
   account-left =
-      simp (whole-some engines engines-whole (e .some), account-within, account-count, e .each, working, length-vehicles (recordCount engines) engines)
+      simp (whole-some engines engines-whole (e .some), account-within, account-count, e .each, working, length-vehicles (recordCount engines) engines) (left-of _ refl)
 
-  pub answers-same : accountAnswer engines (accounted hauled .account) order room ≡ trainAnswer (engines ++ hauled) order room
+  pub answers-same : firstOf Done (accountAround engines (accounted hauled .account) lent) ≡ firstOf Done (trainAround (engines ++ hauled) lent)
   answers-same = account-left ∙ sym train-left
 
   pub facts-joint : factsBeside (vehicles engines) (accounted hauled .account) ≡ factsOf (vehicles (engines ++ hauled))
@@ -106,10 +113,3 @@ module _ (engines hauled order : List ℕ) (room : ℕ) (e : GoodEngines engines
       ap (factsBeside (vehicles engines)) account-is
       ∙ sym (facts-agree (vehicles engines) (vehicles hauled) each-working first-hauled)
       ∙ ap factsOf (sym train)
-
-pub sheets-same : (engines hauled order sheet : List ℕ) → GoodEngines engines → all isWorking (vehicles engines) ≡ true → GoodPortion hauled
-    → (accountAnswer engines (accounted hauled .account) order (length sheet) ≡ trainAnswer (engines ++ hauled) order (length sheet))
-    × (accountSheet engines (accounted hauled .account) order sheet ≡ trainSheet (engines ++ hauled) order sheet)
-sheets-same engines hauled order sheet e w s =
-    let a = answers-same engines hauled order (length sheet) e w s in
-    (a, ap₂ (λ (x : Answer) (f : Facts). written x (sheetFor f (orderOf order)) sheet) a (facts-joint engines hauled order (length sheet) e w s))

@@ -1,6 +1,7 @@
 pub mod Answers
-pub mod Sheets
+pub mod Engines
 pub mod Trains
+pub mod Sheets
 pub mod Bounds
 pub mod Shown
 pub mod Joint

@@ -24,16 +24,17 @@ use Rattle.account.specs.declared.Answer.the-variants.{WorkingEngine, BadField}
 use Rattle.record.proofs.Lists.{every-map, leading-each}
 use Rattle.record.proofs.Figures.{leading-le, first-leading, none-first}
 use Rattle.account.proofs.Demands.{within-ceilings, answer-6, answer-0, hauled-each}
-use Rattle.order.specs.Orders.{orderOf, orderRead}
 use Rattle.facts.specs.Engines.{GoodEngines}
 use Rattle.facts.specs.Facts.{workingOf, hauledOf, factsOf, factsBeside, Working}
 use Rattle.facts.proofs.Demands.{facts-agree}
-use Rattle.sheets.specs.Sheets.{sheetLength}
-use Rattle.judge.specs.Answers.{isDone, orderRefusals, recordRefusals, trainShape, trainRefusals, trainAnswer, trainSheet, shape, sheetFor, GoodRecords, Parts}
+use Rattle.facts.specs.declared.Facts.{Facts}
+use Rattle.judge.specs.Answers.{isDone, recordRefusals, trainShape, trainAround, shape}
+use Rattle.judge.specs.Judging.{Refusing, lentAs, trainJudged, GoodRecords, Parts}
 use Rattle.judge.specs.declared.Answer.{Answer}
 use Rattle.judge.specs.declared.Answer.the-variants.{Done}
-use Rattle.judge.proofs.Answers.{orElse, or-else}
-use Rattle.judge.proofs.Sheets.{Gives, refused-first, refused-second, refused-third, all-done, none-of, order-read, order-room, whole-some}
+use Rattle.judge.specs.declared.Judged.the-variants.{Ready, Refused}
+use Rattle.judge.proofs.Answers.{orElse, around-groups, none-of, refused-first, refused-second, refused-third, all-ready}
+use Rattle.judge.proofs.Engines.{whole-some}
 
 zero-first : (n : ℕ) → eqb n 0 ≡ not (ltb 0 n)
 zero-first zero = refl
@@ -171,59 +172,50 @@ module _ (bs : List ℕ) (good-records : GoodRecords bs) (n : ℕ) (count : n �
         facts = facts-are bs n count (good-records .whole) (good-records .few) (good-records .each) part portion done;
       }
 
--- ---- the three groups of refusals, as the code comes to them: x, y and z answer for them
-module _ (bs order sheet : List ℕ) where
-  abbrev recordAnswer : Answer
+-- ---- the three groups of refusals, as the code comes to them: x and z answer for the first and the last
+module _ (bs : List ℕ) where
+  abbrev pub recordAnswer : Answer
   recordAnswer = firstOf Done (recordRefusals bs)
 
-  abbrev orderAnswer : Answer
-  orderAnswer = firstOf Done (orderRefusals order (length sheet))
-
-  abbrev shapeAnswer : Answer
+  abbrev pub shapeAnswer : Answer
   shapeAnswer = firstOf Done (trainShape (vehicles bs))
 
-  abbrev total : Answer
-  total = trainAnswer bs order (length sheet)
-
-  abbrev bytes : List ℕ
-  bytes = sheetFor (factsOf (vehicles bs)) (orderOf order)
-
-  pub train-groups : total ≡ orElse recordAnswer (orElse orderAnswer shapeAnswer)
-  unfolding trainRefusals
-  train-groups =
-      or-else (recordRefusals bs) (orderRefusals order (length sheet) ++ trainShape (vehicles bs)) (refl, (refl, (refl, tt)))
-      ∙ ap (orElse recordAnswer) (or-else (orderRefusals order (length sheet)) (trainShape (vehicles bs)) (refl, (refl, tt)))
+  pub records-refusing : Refusing (recordRefusals bs)
+  records-refusing = (refl, (refl, (refl, tt)))
 
   pub records-good : isDone recordAnswer ≡ true → GoodRecords bs
   records-good done =
-      let t = none-of (recordRefusals bs) (refl, (refl, (refl, tt))) done in
+      let t = none-of (recordRefusals bs) records-refusing done in
       record { whole = whole-some bs (t .0) .0; few = ltb-false 200 (recordCount bs) (t .1 .0); each = not-false (all good (recordsOf bs)) (t .1 .1 .0) }
 
-  abbrev pub TrainGives : Answer → Type 0
-  TrainGives = Gives total recordAnswer orderAnswer shapeAnswer train-groups bytes sheet
+  module _ (lent : Answer) where
+    abbrev total : Answer
+    total = firstOf Done (trainAround bs (lentAs lent))
 
-  module _ (x : Answer) (first : x ≡ recordAnswer) where
-    pub train-first : isDone x ≡ false → TrainGives x
-    train-first n = refused-first total recordAnswer orderAnswer shapeAnswer train-groups bytes sheet x first n
+    groups : total ≡ orElse recordAnswer (orElse lent shapeAnswer)
+    groups = around-groups (recordRefusals bs) lent (trainShape (vehicles bs)) records-refusing
 
-    module _ (p : isDone x ≡ true) where
-      pub train-good : GoodRecords bs
-      train-good = records-good (ap isDone (sym first) ∙ p)
+    abbrev facts : Facts
+    facts = factsOf (vehicles bs)
 
-      module _ (y : Answer) (second : y ≡ orderAnswer) where
-        pub train-second : isDone y ≡ false → TrainGives y
-        train-second n = refused-second total recordAnswer orderAnswer shapeAnswer train-groups bytes sheet x first p y second n
+    module _ (x : Answer) (first : x ≡ recordAnswer) where
+      pub train-first : isDone x ≡ false → Refused x ≡ trainJudged bs lent
+      unfolding trainJudged
+      train-first n = refused-first total recordAnswer lent shapeAnswer groups facts x first n
 
-        module _ (q : isDone y ≡ true) where
-          pub train-room : sheetLength ≤ length sheet
-          train-room = order-room order (length sheet) (ap isDone (sym second) ∙ q)
+      module _ (p : isDone x ≡ true) where
+        pub train-good : GoodRecords bs
+        train-good = records-good (ap isDone (sym first) ∙ p)
 
-          pub train-order : orderRead order ≡ orderOf order
-          train-order = order-read order (length sheet) (ap isDone (sym second) ∙ q)
+        pub train-second : isDone lent ≡ false → Refused lent ≡ trainJudged bs lent
+        unfolding trainJudged
+        train-second n = refused-second total recordAnswer lent shapeAnswer groups facts x first p n
 
-          module _ (z : Answer) (late : z ≡ shapeAnswer) where
-            pub train-third : isDone z ≡ false → TrainGives z
-            train-third n = refused-third total recordAnswer orderAnswer shapeAnswer train-groups bytes sheet x first p y second q z late n
+        module _ (q : isDone lent ≡ true) (z : Answer) (late : z ≡ shapeAnswer) where
+          pub train-third : isDone z ≡ false → Refused z ≡ trainJudged bs lent
+          unfolding trainJudged
+          train-third n = refused-third total recordAnswer lent shapeAnswer groups facts x first p q z late n
 
-            pub train-done : isDone z ≡ true → (Done ≡ total) × (bytes ++ drop sheetLength sheet ≡ trainSheet bs order sheet)
-            train-done d = all-done total recordAnswer orderAnswer shapeAnswer train-groups bytes sheet x first p y second q z late d
+          pub train-done : isDone z ≡ true → (g : Facts) → g ≡ facts → Ready g ≡ trainJudged bs lent
+          unfolding trainJudged
+          train-done d g e = all-ready total recordAnswer lent shapeAnswer groups facts x first p q z late d g e

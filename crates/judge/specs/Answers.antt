@@ -1,19 +1,17 @@
 -- Document 01, "Answers that yield no sheet": the number and the place of each answer, and the refusals in their two orders.
-use Prim.Native.Nat.{ℕ, _+_, _*_, _%_, _≤_}
-use mathlib.Core.Path.{_≡_}
-use mathlib.Core.Bool.{Bool, true, not, _||_, cond}
+use Prim.Native.Nat.{ℕ, _+_}
+use mathlib.Core.Bool.{Bool, not, _||_, cond}
 use mathlib.Core.List.{List, [], _∷_, _++_}
-use lib.ListN.{length, take, drop}
+use lib.ListN.{length, drop}
 use Rattle.record.specs.Words.{_is_, _above_, all, leading, Case, firstOf}
 use Rattle.record.specs.Records.{recordCount, recordsOf, isWhole}
 use Rattle.record.specs.Vehicles.{good, vehicles, isWorking}
 use Rattle.record.specs.declared.vehicle.Vehicle.{Vehicle}
 use Rattle.record.specs.Figures.{some, firstIs}
-use Rattle.account.specs.Ceilings.{within, Within}
+use Rattle.account.specs.Ceilings.{within}
 use Rattle.account.specs.declared.Account.{Account}
 use Rattle.order.specs.Orders.{goodOrder, orderOf}
 use Rattle.order.specs.declared.Order.{Order}
-use Rattle.facts.specs.Engines.{GoodEngines}
 use Rattle.facts.specs.Facts.{workingOf, hauledOf, factsOf, factsBeside}
 use Rattle.facts.specs.declared.Facts.{Facts}
 use Rattle.rules.specs.CrossBorder.{crossBorder}
@@ -26,7 +24,7 @@ numberOf Done = 0
 numberOf NotWhole = 1
 numberOf TooMany = 2
 numberOf (BadField place) = 3
-numberOf BadOrder = 4
+numberOf (BadOrder place) = 4
 numberOf ShortSheet = 5
 numberOf AboveCeiling = 7
 numberOf NotWorking = 11
@@ -34,13 +32,13 @@ numberOf WorkingBehind = 12
 numberOf ManyEngines = 13
 numberOf NothingHauled = 14
 
--- 0 save for number 3
+-- 0 save for number 3 and, on a route, number 4
 abbrev pub placeOf : Answer → ℕ
 placeOf Done = 0
 placeOf NotWhole = 0
 placeOf TooMany = 0
 placeOf (BadField place) = place
-placeOf BadOrder = 0
+placeOf (BadOrder place) = place
 placeOf ShortSheet = 0
 placeOf AboveCeiling = 0
 placeOf NotWorking = 0
@@ -61,14 +59,14 @@ notWhole bs = refusal NotWhole (length bs is 0 || not (isWhole bs))
 abbrev pub badField : List ℕ → Case Answer
 badField bs = refusal (BadField (leading good (recordsOf bs))) (not (all good (recordsOf bs)))
 
--- of the order and the lent sheet: 4, 5
+-- of the order and the lent sheet: 4, with place 0, and 5
 abbrev pub orderTests : Bool → ℕ → List (Case Answer)
-orderTests isGood room = refusal BadOrder (not isGood) ∷ refusal ShortSheet (sheetLength above room) ∷ []
+orderTests isGood room = refusal (BadOrder 0) (not isGood) ∷ refusal ShortSheet (sheetLength above room) ∷ []
 
 abbrev pub orderRefusals : List ℕ → ℕ → List (Case Answer)
 orderRefusals order room = orderTests (goodOrder order) room
 
--- for a whole train: 1, 2, 3, 4, 5, 11, 12, 13, 14
+-- of a whole train: 1, 2, 3 before what is lent beside it, and 11, 12, 13, 14 behind
 abbrev pub recordRefusals : List ℕ → List (Case Answer)
 recordRefusals bs = notWhole bs ∷ refusal TooMany (recordCount bs above 200) ∷ badField bs ∷ []
 
@@ -87,10 +85,10 @@ shape notWorking behind engines hauled =
 abbrev pub trainShape : List Vehicle → List (Case Answer)
 trainShape train = shape (not (firstIs isWorking train)) (some isWorking (hauledOf train)) (length (workingOf train)) (length (hauledOf train))
 
-unfoldable pub trainRefusals : List ℕ → List ℕ → ℕ → List (Case Answer)
-trainRefusals bs order room = recordRefusals bs ++ (orderRefusals order room ++ trainShape (vehicles bs))
+abbrev pub trainAround : List ℕ → List (Case Answer) → List (Case Answer)
+trainAround bs lent = recordRefusals bs ++ (lent ++ trainShape (vehicles bs))
 
--- for engines with an account: 1, 7, 2, 3, 4, 5, 11, 13, 14
+-- of engines with an account: 1, 7, 2, 3 before it, and 11, 13, 14 behind
 abbrev pub engineRefusals : List ℕ → Account → List (Case Answer)
 engineRefusals bs hauled =
     notWhole bs
@@ -109,12 +107,19 @@ engineShape engines hauled =
     ∷ refusal NothingHauled (hauled .count is 0)
     ∷ []
 
-unfoldable pub accountRefusals : List ℕ → Account → List ℕ → ℕ → List (Case Answer)
-accountRefusals bs hauled order room = engineRefusals bs hauled ++ (orderRefusals order room ++ engineShape (vehicles bs) hauled)
+abbrev pub accountAround : List ℕ → Account → List (Case Answer) → List (Case Answer)
+accountAround bs hauled lent = engineRefusals bs hauled ++ (lent ++ engineShape (vehicles bs) hauled)
 
--- a refused sheet is not written at all; a done call writes the sheet over its first bytes and no other
+-- for a sheet: 1, 2, 3, 4, 5, 11, 12, 13, 14, and 1, 7, 2, 3, 4, 5, 11, 13, 14
+unfoldable pub trainRefusals : List ℕ → List ℕ → ℕ → List (Case Answer)
+trainRefusals bs order room = trainAround bs (orderRefusals order room)
+
+unfoldable pub accountRefusals : List ℕ → Account → List ℕ → ℕ → List (Case Answer)
+accountRefusals bs hauled order room = accountAround bs hauled (orderRefusals order room)
+
+-- a refused call writes nothing at all; a done call writes its bytes over the first of those lent and no other
 abbrev pub written : Answer → List ℕ → List ℕ → List ℕ
-written answer bytes sheet = cond (isDone answer) (bytes ++ drop sheetLength sheet) sheet
+written answer bytes lent = cond (isDone answer) (bytes ++ drop (length bytes) lent) lent
 
 -- the sheet of a train's facts, by the one book there is
 unfoldable pub sheetFor : Facts → Order → List ℕ
@@ -132,16 +137,3 @@ accountAnswer bs hauled order room = firstOf Done (accountRefusals bs hauled ord
 abbrev pub accountSheet : List ℕ → Account → List ℕ → List ℕ → List ℕ
 accountSheet bs hauled order sheet =
     written (accountAnswer bs hauled order (length sheet)) (sheetFor (factsBeside (vehicles bs) hauled) (orderOf order)) sheet
-
--- at most 200 whole good records
-pub record GoodRecords (bs : List ℕ) : Type 0 where
-  pub whole : length bs % 24 ≡ 0
-  pub few : recordCount bs ≤ 200
-  pub each : all good (recordsOf bs) ≡ true
-
--- a train parted behind its working engines, ready to be judged
-pub record Parts (bs : List ℕ) (working : ℕ) (hauled : Account) : Type 0 where
-  pub within : 24 * working ≤ length bs
-  pub engines : GoodEngines (take (24 * working) bs)
-  pub ceilings : Within hauled
-  pub facts : factsBeside (vehicles (take (24 * working) bs)) hauled ≡ factsOf (vehicles bs)

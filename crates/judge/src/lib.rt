@@ -1,21 +1,17 @@
 // The judging library: what a train, or engines beside an account, is answered, and its sheet.
 ghost use mathlib.Core.Path.{_≡_};
 ghost use mathlib.Core.Bool.{true, not};
-ghost use mathlib.Core.List.{_++_};
-ghost use Prim.Native.Nat.{_≤_};
-ghost use lib.ListN.{length, drop};
+ghost use lib.ListN.{length};
 ghost use Rattle.record.specs.Words.{_is_, firstOf};
 ghost use Rattle.record.specs.Vehicles.{vehicles};
 ghost use Rattle.account.specs.Answers.{numberOf as portionNumber};
-ghost use Rattle.account.specs.Ceilings.{Within};
-ghost use Rattle.facts.specs.Engines.{GoodEngines};
-ghost use Rattle.facts.specs.Facts.{factsBeside};
-ghost use Rattle.sheets.specs.Sheets.{sheetLength};
-ghost use Rattle.judge.specs.Answers.{isDone, trainShape, sheetFor, trainAnswer, trainSheet, accountAnswer, accountSheet, GoodRecords, Parts};
+ghost use Rattle.order.specs.Orders.{orderRead};
+ghost use Rattle.judge.specs.Answers.{isDone, trainShape, trainAnswer, trainSheet, accountAnswer, accountSheet};
+ghost use Rattle.judge.specs.Judging.{trainJudged, accountJudged, answerOf, sheetIn, Roomy, GoodRecords, Parts};
 use account::Account;
 use account::account_of;
+use facts::Facts;
 use facts::facts_beside;
-use order::Order;
 use order::is_good_order;
 use order::read_order;
 use record::vehicle::SIZE;
@@ -33,9 +29,9 @@ pub enum Answer {
     TooMany,
     // 3: a field out of range, in the record at this place
     BadField(usize),
-    // 4: the order record
-    BadOrder,
-    // 5: the lent sheet is shorter than a sheet
+    // 4: the order record; on a route, the section at this place
+    BadOrder(usize),
+    // 5: fewer bytes are lent than will be written
     ShortSheet,
     // 7: an account with a figure above its ceiling
     AboveCeiling,
@@ -47,6 +43,12 @@ pub enum Answer {
     ManyEngines,
     // 14: nothing is hauled
     NothingHauled,
+}
+
+// A train as it goes to be judged: its facts, or why it has none.
+pub enum Judged {
+    Ready(Facts),
+    Refused(Answer),
 }
 
 // A train of good records parted: its answer, how many working engines stand in front, and the account of the rest.
@@ -90,15 +92,61 @@ fn part_train(train: &[u8]) -> Parted
     }
 }
 
-// Writes the sheet of one or two good working engines beside an account within its ceilings.
-fn put_beside(engines: &[u8], hauled: Account, order: Order, sheet: &mut [u8])
-    requires { ⌜ GoodEngines (now engines) ⌝ }
-    requires { ⌜ Within hauled ⌝ }
-    requires { ⌜ sheetLength ≤ length (now sheet) ⌝ }
-    ensures { λ _. ⌜ now (sheet .exit) ≡ sheetFor (factsBeside (vehicles (now (engines .entry))) hauled) order ++ drop sheetLength (now (sheet .entry)) ⌝ }
+// The facts of a whole train, or its first refusal; `lent` is what was answered of things lent beside it.
+pub fn train_facts(vehicles: &[u8], lent: Answer) -> Judged
+    ensures { λ r. ⌜ r ≡ trainJudged (now (vehicles .entry)) lent ⌝ }
 {
-    let made = sheet_of(facts_beside(engines, hauled), order);
-    bytes::copy(&made, sheet);
+    let records = refusal::record_refusal(vehicles);
+    if !refusal::is_done(records) {
+        return Judged::Refused(records);
+    }
+    if !refusal::is_done(lent) {
+        return Judged::Refused(lent);
+    }
+    let parts = part_train(vehicles);
+    let late = parts.answer;
+    if !refusal::is_done(late) {
+        return Judged::Refused(late);
+    }
+    let split = SIZE * parts.working;
+    let hauled = parts.hauled;
+    Judged::Ready(facts_beside(&vehicles[..split], hauled))
+}
+
+// The same of working engines lent apart, with an account of what they haul.
+pub fn account_facts(engines: &[u8], hauled: Account, lent: Answer) -> Judged
+    ensures { λ r. ⌜ r ≡ accountJudged (now (engines .entry)) hauled lent ⌝ }
+{
+    let records = refusal::engine_refusal(engines, hauled);
+    if !refusal::is_done(records) {
+        return Judged::Refused(records);
+    }
+    if !refusal::is_done(lent) {
+        return Judged::Refused(lent);
+    }
+    let working = working_count(engines);
+    let n = engines.len() / SIZE;
+    let late = refusal::shape_refusal(working < n, false, n, hauled.count);
+    if !refusal::is_done(late) {
+        return Judged::Refused(late);
+    }
+    Judged::Ready(facts_beside(engines, hauled))
+}
+
+// Writes the sheet where nothing is refused, and answers.
+fn put_sheet(judged: Judged, order: &[u8], sheet: &mut [u8]) -> Answer
+    requires { ⌜ Roomy judged (now sheet) ⌝ }
+    ensures { λ r. ⌜ r ≡ answerOf judged ⌝ }
+    ensures { λ _. ⌜ now (sheet .exit) ≡ sheetIn judged (orderRead (now (order .entry))) (now (sheet .entry)) ⌝ }
+{
+    match judged {
+        Judged::Refused(answer) => answer,
+        Judged::Ready(f) => {
+            let made = sheet_of(f, read_order(order));
+            bytes::copy(&made, sheet);
+            Answer::Done
+        }
+    }
 }
 
 // The sheet of a whole train.
@@ -106,23 +154,8 @@ pub fn sheet_of_train(vehicles: &[u8], order: &[u8], sheet: &mut [u8]) -> Answer
     ensures { λ r. ⌜ r ≡ trainAnswer (now (vehicles .entry)) (now (order .entry)) (length (now (sheet .entry))) ⌝ }
     ensures { λ _. ⌜ now (sheet .exit) ≡ trainSheet (now (vehicles .entry)) (now (order .entry)) (now (sheet .entry)) ⌝ }
 {
-    let records = refusal::record_refusal(vehicles);
-    if !refusal::is_done(records) {
-        return records;
-    }
     let lent = refusal::order_refusal(is_good_order(order), sheet.len());
-    if !refusal::is_done(lent) {
-        return lent;
-    }
-    let parts = part_train(vehicles);
-    let late = parts.answer;
-    if !refusal::is_done(late) {
-        return late;
-    }
-    let split = SIZE * parts.working;
-    let hauled = parts.hauled;
-    put_beside(&vehicles[..split], hauled, read_order(order), sheet);
-    Answer::Done
+    put_sheet(train_facts(vehicles, lent), order, sheet)
 }
 
 // The sheet of working engines lent apart, with an account of what they haul.
@@ -130,20 +163,6 @@ pub fn sheet_of_account(engines: &[u8], hauled: Account, order: &[u8], sheet: &m
     ensures { λ r. ⌜ r ≡ accountAnswer (now (engines .entry)) hauled (now (order .entry)) (length (now (sheet .entry))) ⌝ }
     ensures { λ _. ⌜ now (sheet .exit) ≡ accountSheet (now (engines .entry)) hauled (now (order .entry)) (now (sheet .entry)) ⌝ }
 {
-    let records = refusal::engine_refusal(engines, hauled);
-    if !refusal::is_done(records) {
-        return records;
-    }
     let lent = refusal::order_refusal(is_good_order(order), sheet.len());
-    if !refusal::is_done(lent) {
-        return lent;
-    }
-    let working = working_count(engines);
-    let n = engines.len() / SIZE;
-    let late = refusal::shape_refusal(working < n, false, n, hauled.count);
-    if !refusal::is_done(late) {
-        return late;
-    }
-    put_beside(engines, hauled, read_order(order), sheet);
-    Answer::Done
+    put_sheet(account_facts(engines, hauled, lent), order, sheet)
 }

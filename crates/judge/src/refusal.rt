@@ -19,7 +19,7 @@ pub(crate) fn is_done(answer: Answer) -> bool
         Answer::NotWhole => false,
         Answer::TooMany => false,
         Answer::BadField(_) => false,
-        Answer::BadOrder => false,
+        Answer::BadOrder(_) => false,
         Answer::ShortSheet => false,
         Answer::AboveCeiling => false,
         Answer::NotWorking => false,
@@ -73,7 +73,7 @@ pub(crate) fn order_refusal(good: bool, room: usize) -> Answer
     ensures { λ r. ⌜ r ≡ firstOf Answer.Done (orderTests good room) ⌝ }
 {
     if !good {
-        return Answer::BadOrder;
+        return Answer::BadOrder(0);
     }
     if room < LENGTH {
         return Answer::ShortSheet;

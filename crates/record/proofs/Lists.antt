@@ -3,10 +3,12 @@ use Prim.Native.Nat.{ℕ, zero, suc, _+_, _≤_, _<_}
 use native.Mathlib.Nat.{not-suc-le-zero, le-of-suc-le-suc}
 use native.Mathlib.Omega.{arith}
 use mathlib.Core.Path.{_≡_, refl, sym, ap, ap₂, _∙_}
-use mathlib.Core.Bool.{Bool, true, false, _&&_, _||_, cond, false≢true, and-true, and-false, and-assoc}
+use mathlib.Core.Bool.{Bool, true, false, not, _&&_, _||_, cond, false≢true, and-true, and-false, and-assoc}
 use mathlib.Core.List.{List, [], _∷_, _++_, map}
-use lib.ListN.{length, getD, take, drop, drop-of-length-le}
-use lib.Seq.{drop-cons}
+use borrow.Author.Tests.{lt-ltb}
+use lib.Dec.{ltb, leb·suc-suc}
+use lib.ListN.{length, getD, take, drop, drop-of-length-le, take-append-drop}
+use lib.Seq.{drop-cons, length-take-le}
 use Rattle.record.specs.Words.{all, leading, Every}
 
 pub both : (p q : Bool) → (p && q) ≡ true → (p ≡ true) × (q ≡ true)
@@ -77,6 +79,16 @@ module _ {A : Type 0} (p : A → Bool) where
       let t = both (p x) (all p xs) h in
       rw (t .0) (ap suc (leading-all xs (t .1)))
 
+  -- fewer than all exactly where one does not pass
+  pub lacking : (xs : List A) → ltb (leading p xs) (length xs) ≡ not (all p xs)
+  unfolding all
+  lacking [] = refl
+  lacking (x ∷ xs) = go (p x) (lacking xs)
+    where
+      go : (b : Bool) → ltb (leading p xs) (length xs) ≡ not (all p xs) → ltb (cond b (suc (leading p xs)) 0) (suc (length xs)) ≡ not (b && all p xs)
+      go true e = leb·suc-suc (suc (leading p xs)) (length xs) ∙ e
+      go false e = lt-ltb 0 (suc (length xs)) (omega arith)
+
   pub leading-each : (xs : List A) → Every (λ x. p x ≡ true) (take (leading p xs) xs)
   leading-each [] = tt
   leading-each (x ∷ xs) = go (p x) refl (leading-each xs)
@@ -97,6 +109,15 @@ module _ {A : Type 0} (p : A → Bool) (x : A) (bad : p x ≡ false) (ys : List 
   pub all-but : (xs : List A) → all p (xs ++ x ∷ ys) ≡ false
   unfolding all
   all-but xs = all-append p xs (x ∷ ys) ∙ ap (λ (b : Bool). all p xs && (b && all p ys)) bad ∙ and-false (all p xs)
+
+-- a list by one of its places
+pub split-at : {A : Type 0} (xs : List A) (i : ℕ) (d : A) → i < length xs → xs ≡ take i xs ++ getD xs i d ∷ drop (suc i) xs
+split-at xs i d h = sym (take-append-drop i xs) ∙ ap (λ (l : List _). take i xs ++ l) (drop-cons xs i d h)
+
+-- one that does not pass with none but such as pass in front of it
+pub leading-behind : {A : Type 0} (p : A → Bool) (xs : List A) (i : ℕ) (d : A) → i < length xs → all p (take i xs) ≡ true → p (getD xs i d) ≡ false → leading p xs ≡ i
+leading-behind p xs i d h before bad =
+    ap (leading p) (split-at xs i d h) ∙ leading-to p (getD xs i d) bad (drop (suc i) xs) (take i xs) before ∙ length-take-le i xs (omega arith)
 
 pub leading-map : {A B : Type 0} (p : B → Bool) (q : A → Bool) (f : A → B) → ((x : A) → p (f x) ≡ q x) → (xs : List A) → leading p (map f xs) ≡ leading q xs
 leading-map p q f h [] = refl

@@ -8,8 +8,8 @@ use native.Mathlib.Numerals.{add-one}
 use native.Mathlib.Omega.{arith}
 use borrow.Author.Tests.{leb-true, eqb-true, eq-eqb, ne-eqb}
 use lib.Dec.{leb, eqb}
-use lib.ListN.{length, getD, take, drop, length-take, length-map, take-append-drop}
-use lib.Seq.{take-suc, take-all, getD-take, getD-drop, drop-cons, length-take-le}
+use lib.ListN.{length, getD, take, drop, length-take, length-map}
+use lib.Seq.{take-suc, take-all, getD-take, getD-drop}
 use Rattle.record.specs.Words.{all, leading}
 use Rattle.record.specs.Numbers.{littleEndian}
 use Rattle.record.specs.Records.{records, recordsOf, hasByte}
@@ -19,7 +19,7 @@ use Rattle.record.specs.declared.vehicle.Reading.the-variants.{Good, Bad
 use Rattle.record.specs.declared.vehicle.Found.{Found}
 use Rattle.record.specs.declared.vehicle.Found.the-variants.{At, Nothing}
 pub use Rattle.record.proofs.Lists.{both, all-append, all-snoc, all-not, all-at, leading-all, leading-to, chain, chain-all}
-use Rattle.record.proofs.Lists.{all-but, leading-map}
+use Rattle.record.proofs.Lists.{all-but, split-at, leading-behind, leading-map}
 use Rattle.record.proofs.Numbers.{Bytes, bytes-take, bytes-drop, number-below}
 use Rattle.record.proofs.Records.{recordAt, part-record, records-snoc, records-split, length-records, records-append, record-alone}
 
@@ -81,9 +81,22 @@ at-most r g f h =
     let t = all-at (fieldGood r) fields f (field 0 0 0 0) h (both (eqb (length r) 24) (all (fieldGood r) fields) g .1) in
     leb-true (value r (nth f)) (nth f .high) (both (leb (nth f .low) (value r (nth f))) (leb (value r (nth f)) (nth f .high)) t .1)
 
--- a turn of a loop over the records
+-- a turn of a loop over the records; one that does not pass; the end: one law for every test
+module _ (p : List ℕ → Bool) (bs : List ℕ) where
+  pub passing-more : (k : ℕ) → all p (records k bs) ≡ true → p (recordAt bs k) ≡ true → all p (records (k + 1) bs) ≡ true
+  passing-more k t e = rw (add-one, records-snoc) (all-snoc p (records k bs) (recordAt bs k) t e)
+
+  pub passing-ends : (n k : ℕ) → k < n → all p (records k bs) ≡ true → p (recordAt bs k) ≡ false → k ≡ leading p (records n bs)
+  passing-ends n k l t e =
+      sym (length-records k bs)
+      ∙ sym (leading-to p (recordAt bs k) e _ (records k bs) t)
+      ∙ ap (leading p) (sym (records-split n k bs l))
+
+  pub passing-whole : (n : ℕ) → all p (records n bs) ≡ true → n ≡ leading p (records n bs)
+  passing-whole n t = sym (length-records n bs) ∙ sym (leading-all p (records n bs) t)
+
 pub records-more : (bs : List ℕ) (i : ℕ) → all good (records i bs) ≡ true → good (recordAt bs i) ≡ true → all good (records (i + 1) bs) ≡ true
-records-more bs i t e = rw (add-one, records-snoc) (all-snoc good (records i bs) (recordAt bs i) t e)
+records-more = passing-more good
 
 -- ---- the first bad record
 abbrev pub isNothing : Found → Bool
@@ -129,9 +142,7 @@ module _ (n i : ℕ) (bs : List ℕ) (within : i < n) (before : all good (record
 pub bad-behind : (rs : List (List ℕ)) (i : ℕ) → i < length rs → all good (take i rs) ≡ true → good (getD rs i []) ≡ false → firstBad rs ≡ At i
 unfolding firstBad
 bad-behind rs i h before bad =
-    let split : rs ≡ take i rs ++ getD rs i [] ∷ drop (suc i) rs = sym (take-append-drop i rs) ∙ ap (λ (l : List (List ℕ)). take i rs ++ l) (drop-cons rs i [] h) in
-    let place = ap (leading good) split ∙ leading-to good (getD rs i []) bad (drop (suc i) rs) (take i rs) before ∙ length-take-le i rs (omega arith) in
-    rw (ap (all good) split ∙ all-but good (getD rs i []) bad (drop (suc i) rs) (take i rs)) (ap At place)
+    rw (ap (all good) (split-at rs i [] h) ∙ all-but good (getD rs i []) bad (drop (suc i) rs) (take i rs)) (ap At (leading-behind good rs i [] h before bad))
 
 -- ---- what a record reads as
 pub reading-bad : (r : List ℕ) → good r ≡ false → Bad ≡ reading r
@@ -187,16 +198,13 @@ module _ (at x : ℕ) (bs : List ℕ) where
   byte-there k h = getD-take 24 (drop (24 * k) bs) at 0 h ∙ getD-drop (24 * k) bs at 0
 
   pub front-more : (k : ℕ) → at < 24 → all (hasByte at x) (records k bs) ≡ true → getD bs (24 * k + at) 0 ≡ x → all (hasByte at x) (records (k + 1) bs) ≡ true
-  front-more k h t e = rw (add-one, records-snoc) (all-snoc (hasByte at x) (records k bs) (recordAt bs k) t (eq-eqb _ x (byte-there k h ∙ e)))
+  front-more k h t e = passing-more (hasByte at x) bs k t (eq-eqb _ x (byte-there k h ∙ e))
 
   pub front-ends : (n k : ℕ) → at < 24 → k < n → all (hasByte at x) (records k bs) ≡ true → (getD bs (24 * k + at) 0 ≡ x → ⊥) → k ≡ leading (hasByte at x) (records n bs)
-  front-ends n k h l t e =
-      sym (length-records k bs)
-      ∙ sym (leading-to (hasByte at x) (recordAt bs k) (ne-eqb _ x (λ q. e (sym (byte-there k h) ∙ q))) _ (records k bs) t)
-      ∙ ap (leading (hasByte at x)) (sym (records-split n k bs l))
+  front-ends n k h l t e = passing-ends (hasByte at x) bs n k l t (ne-eqb _ x (λ q. e (sym (byte-there k h) ∙ q)))
 
   pub front-whole : (n : ℕ) → all (hasByte at x) (records n bs) ≡ true → n ≡ leading (hasByte at x) (records n bs)
-  front-whole n t = sym (length-records n bs) ∙ sym (leading-all (hasByte at x) (records n bs) t)
+  front-whole = passing-whole (hasByte at x) bs
 
 -- a field of one byte
 one-byte : (l : List ℕ) → littleEndian (take 1 l) ≡ getD l 0 0

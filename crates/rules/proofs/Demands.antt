@@ -2,7 +2,7 @@
 use Prim.Native.Nat.{ℕ, _≤_, _<_}
 use native.Mathlib.Omega.{arith}
 use mathlib.Core.Path.{_≡_, refl}
-use mathlib.Core.Bool.{false, not, _&&_, cond}
+use mathlib.Core.Bool.{true, false, not, _&&_, cond}
 use mathlib.Core.List.{List, [], _∷_, _++_, map}
 use lib.IntN.{pos}
 use lib.Signed.{ltZ}
@@ -10,16 +10,20 @@ use Rattle.record.specs.Words.{_above_, _atMost_, Every, caseAt, First}
 use Rattle.record.proofs.Cases.{first-applies, none-applies}
 use Rattle.facts.specs.declared.Facts.{Facts}
 use Rattle.order.specs.declared.Order.{Order}
-use Rattle.rules.specs.Categories.{speedOf}
+use Rattle.rules.specs.Categories.{speedOf, none, categoryOf}
 use Rattle.rules.specs.Brakes.{begunOf, marginFor}
 use Rattle.rules.specs.Rules.{Rule, rule, firstBroken, numbersOf, termsOf}
-use Rattle.rules.specs.Books.{RuleBook, rulesOf, brokenBy, Sound}
+use Rattle.rules.specs.Books.{RuleBook, rulesOf, brokenBy, Rise, Sound}
 use Rattle.rules.specs.CrossBorder.{ownRules, crossBorder}
-use Rattle.rules.specs.Grants.{offerOf, bestOf, grantedOf, decisionOf, offersFrom, MayBeGranted, Among, Offered}
+use Rattle.rules.specs.Grants.{stands, offerOf, bestOf, grantedOf, decisionOf, offersFrom, MayBeGranted, Among, Offered, Stands, Granted, KeepsNumber, Standing}
 use Rattle.rules.specs.declared.category.Category.{Category}
+use Rattle.rules.specs.declared.grant.Offer.{Offer}
+use Rattle.rules.specs.declared.grant.Best.{Best}
 use Rattle.rules.specs.declared.rule.Terms.{Terms}
-use Rattle.rules.proofs.Grants.{none-exactly}
+use Rattle.rules.proofs.Grants as grants
+use Rattle.rules.proofs.Offers as offers
 use Rattle.rules.proofs.Offers.{may-offered, offered-may, is-granted}
+use Rattle.rules.proofs.Rows as table
 use Rattle.rules.proofs.Rules as laws
 use Rattle.rules.proofs.Rules.{first-some, zero-none}
 
@@ -31,6 +35,17 @@ pub category-table :
     × (map (λ (c : Category). c .column) (crossBorder .rows) ≡ 0 ∷ 1 ∷ 2 ∷ 2 ∷ 3 ∷ [])
 unfolding crossBorder
 category-table = (refl, refl, refl, refl)
+
+-- where the numbers rise a category is the one of its number, and 0 has none
+pub category-among : (rows : List Category) (c : Category) → Rise 0 rows → Among c rows → categoryOf (c .number) rows ≡ c
+category-among = table.category-among 0
+
+pub category-none : (rows : List Category) → Rise 0 rows → categoryOf 0 rows ≡ none
+category-none rows = table.category-none 0 0 rows (omega arith)
+
+-- no line and no record gives a category more than its own speed
+pub own-speed-most : (c : Category) (f : Facts) (o : Order) → speedOf c f o ≤ c .speed
+own-speed-most = table.own-speed-most
 
 -- ---- the rules, in the order they are asked
 -- the numbers of the common rules, and of a category's whole list
@@ -72,6 +87,31 @@ pub common-in-all : (c : Category) (f : Facts) (o : Order) → (firstBroken (cro
 unfolding brokenBy crossBorder
 common-in-all c f o h = first-some (crossBorder .common f) (ownRules (termsOf c f o) f) h
 
+-- ---- granting, of any offers
+-- an offer stands exactly when it is the asked or a greater one and breaks no rule
+pub stands-exactly : (asked : ℕ) (x : Offer)
+    → (stands asked x ≡ true → (asked ≤ x .number) × (x .broken ≡ 0))
+    × (asked ≤ x .number → x .broken ≡ 0 → stands asked x ≡ true)
+stands-exactly = offers.stands-exactly
+
+-- where none stands none is granted
+pub none-exactly : (asked : ℕ) (os : List Offer) (g : Best) → Granted asked os g → ((n s : ℕ) → Stands asked os n s → ⊥) → g .number ≡ 0
+none-exactly = grants.none-exactly
+
+-- of rows offered in any way that keeps their numbers
+module _ (asked : ℕ) (offered : Category → Offer) (keeps : KeepsNumber offered) (rows : List Category) where
+  -- the computed one is what is granted of them, where the numbers rise
+  pub rows-granted : Rise 0 rows → Granted asked (map offered rows) (bestOf asked (map offered rows))
+  rows-granted = offers.rows-granted asked offered keeps rows
+
+  -- one of them that stands, and one that stands is one of them
+  pub among-stands : (c : Category) → Among c rows → stands asked (offered c) ≡ true → Stands asked (map offered rows) (c .number) (offered c .speed)
+  among-stands = offers.among-stands asked offered keeps rows
+
+  pub stands-among : (n s : ℕ) → Stands asked (map offered rows) n s → Standing asked offered rows n s
+  stands-among = offers.stands-among asked offered keeps rows
+
+-- ---- one order
 module _ (b : RuleBook) (f : Facts) (o : Order) where
   -- what a category breaks is the first rule broken of its list
   pub first-rule : (c : Category) (p : First 0 (rulesOf b c f o)) → brokenBy b c f o ≡ caseAt 0 (rulesOf b c f o) (p .place) .gives
@@ -86,15 +126,18 @@ module _ (b : RuleBook) (f : Facts) (o : Order) where
     unfolding brokenBy
     zero-exactly c = (zero-none (rulesOf b c f o) (sound .numbered (termsOf c f o) f), no-rule (rulesOf b c f o))
 
-    -- ---- granting
     -- no category is granted exactly when every one from the asked on breaks a rule
     pub none-granted : grantedOf b f o .number ≡ 0 → (c : Category) → Among c (b .rows) → MayBeGranted b f o c → ⊥
-    none-granted e c a m = is-granted b f o (sound .rising) .none e (c .number) (speedOf c f o) (may-offered b f o (b .rows) c a m)
+    none-granted e c a m = is-granted b f o (sound .rising) .none e (c .number) (speedOf c f o) (may-offered b f o c a m)
 
     pub all-broken : ((c : Category) → Among c (b .rows) → MayBeGranted b f o c → ⊥) → grantedOf b f o .number ≡ 0
     all-broken h =
-        none-exactly (o .asked) _ (grantedOf b f o) (is-granted b f o (sound .rising))
+        grants.none-exactly (o .asked) _ (grantedOf b f o) (is-granted b f o (sound .rising))
         (λ n s w. let x = offered-may b f o n s w in h (x .category) (x .among) (x .may))
+
+    -- and then there is no speed
+    pub no-speed : grantedOf b f o .number ≡ 0 → grantedOf b f o .speed ≡ 0
+    no-speed = is-granted b f o (sound .rising) .noSpeed
 
     -- the one granted is the asked or a greater one that breaks no rule, at its own speed
     pub granted-stands : 0 < grantedOf b f o .number → Offered b f o (grantedOf b f o .number) (grantedOf b f o .speed)
@@ -102,10 +145,10 @@ module _ (b : RuleBook) (f : Facts) (o : Order) where
 
     -- none that may be granted is faster, and none as fast has a lower number
     pub granted-is-fastest : (c : Category) → Among c (b .rows) → MayBeGranted b f o c → speedOf c f o ≤ grantedOf b f o .speed
-    granted-is-fastest c a m = is-granted b f o (sound .rising) .fastest (c .number) (speedOf c f o) (may-offered b f o (b .rows) c a m)
+    granted-is-fastest c a m = is-granted b f o (sound .rising) .fastest (c .number) (speedOf c f o) (may-offered b f o c a m)
 
     pub lowest-at-a-tie : (c : Category) → Among c (b .rows) → MayBeGranted b f o c → speedOf c f o ≡ grantedOf b f o .speed → grantedOf b f o .number ≤ c .number
-    lowest-at-a-tie c a m e = is-granted b f o (sound .rising) .lowest (c .number) (speedOf c f o) (may-offered b f o (b .rows) c a m) e
+    lowest-at-a-tie c a m e = is-granted b f o (sound .rising) .lowest (c .number) (speedOf c f o) (may-offered b f o c a m) e
 
 -- what is granted is the best of the numbers and speeds that are decided
 pub granted-of-decided : (f : Facts) (o : Order) → bestOf (o .asked) (offersFrom 1 (decisionOf crossBorder f o .broken) (decisionOf crossBorder f o .speeds)) ≡ grantedOf crossBorder f o

@@ -1,6 +1,7 @@
 pub mod Rules
 pub mod Grants
 pub mod Offers
+pub mod Rows
 pub mod Limits
 pub mod Demands
 pub mod Unique

@@ -1,63 +1,69 @@
--- The categories of a book as they are offered, and what is granted of them: for every book whose numbers rise. Assumes nothing.
-use Prim.Native.Nat.{ℕ}
-use mathlib.Core.Path.{_≡_, refl, sym, ap, ap₂, _∙_}
-use mathlib.Core.Bool.{Bool, true, false, _&&_}
+-- Categories as they are offered, whatever they are offered for, and what is granted of them: for every rows whose numbers rise. Assumes nothing.
+use Prim.Native.Nat.{ℕ, _≤_, _<_}
+use mathlib.Core.Path.{_≡_, refl, sym, ap, ap₂, _∙_, subst}
+use mathlib.Core.Bool.{true, _&&_}
 use mathlib.Core.List.{List, [], _∷_, map}
 use mathlib.Core.Logic.{inl, inr}
 use borrow.Author.Tests.{le-leb, leb-true, eq-eqb, eqb-true}
 use lib.Dec.{leb, eqb}
+use Rattle.record.proofs.Lists.{both}
 use Rattle.facts.specs.declared.Facts.{Facts}
 use Rattle.order.specs.declared.Order.{Order}
 use Rattle.rules.specs.Categories.{speedOf}
-use Rattle.rules.specs.Books.{RuleBook, brokenBy, Rise}
-use Rattle.rules.specs.Grants.{stands, offerOf, offersOf, grantedOf, MayBeGranted, Among, Offered}
+use Rattle.rules.specs.Books.{RuleBook, Rise}
+use Rattle.rules.specs.Grants.{stands, bestOf, offerOf, offersOf, grantedOf, MayBeGranted, Among, Offered, Stands, Rising, Granted, KeepsNumber, Standing}
 use Rattle.rules.specs.declared.category.Category.{Category}
-use Rattle.rules.proofs.Grants.{Stands, Rising, Granted, best-granted}
+use Rattle.rules.specs.declared.grant.Offer.{Offer}
+use Rattle.rules.proofs.Grants.{best-granted}
 
-both : (a b : Bool) → a && b ≡ true → (a ≡ true) × (b ≡ true)
-both true true e = (refl, refl)
-both true false e = (refl, e)
-both false b e = let z : _≡_ {A = Bool} false true = e in (z, cc)
+-- an offer stands exactly when it is the asked or a greater one and breaks no rule
+pub stands-exactly : (asked : ℕ) (x : Offer)
+    → (stands asked x ≡ true → (asked ≤ x .number) × (x .broken ≡ 0))
+    × (asked ≤ x .number → x .broken ≡ 0 → stands asked x ≡ true)
+stands-exactly asked x = (apart, λ h e. ap₂ _&&_ (le-leb asked (x .number) h) (eq-eqb (x .broken) 0 e))
+  where
+    apart : stands asked x ≡ true → (asked ≤ x .number) × (x .broken ≡ 0)
+    apart e = let t = both (leb asked (x .number)) (eqb (x .broken) 0) e in (leb-true asked (x .number) (t .0), eqb-true (x .broken) 0 (t .1))
 
+-- ---- of any rows, offered in any way that keeps their numbers
+module _ (asked : ℕ) (offered : Category → Offer) (keeps : KeepsNumber offered) where
+  pub among-stands : (rows : List Category) (c : Category) → Among c rows → stands asked (offered c) ≡ true → Stands asked (map offered rows) (c .number) (offered c .speed)
+  among-stands [] c a e = a
+  among-stands (x ∷ rows) c (inl q) e =
+      inl (ap (λ (y : Category). stands asked (offered y)) (sym q) ∙ e, sym (keeps c) ∙ ap (λ (y : Category). offered y .number) q, ap (λ (y : Category). offered y .speed) q)
+  among-stands (x ∷ rows) c (inr a) e = inr (among-stands rows c a e)
+
+  pub stands-among : (rows : List Category) (n s : ℕ) → Stands asked (map offered rows) n s → Standing asked offered rows n s
+  stands-among [] n s w = absurd w
+  stands-among (x ∷ rows) n s (inl w) = record { category = x; among = inl refl; stands = w .0; number = w .1 ∙ keeps x; speed = w .2 }
+  stands-among (x ∷ rows) n s (inr w) =
+      let y = stands-among rows n s w in
+      record { category = y .category; among = inr (y .among); stands = y .stands; number = y .number; speed = y .speed }
+
+  rows-rise : (m : ℕ) (rows : List Category) → Rise m rows → Rising m (map offered rows)
+  rows-rise m [] r = tt
+  rows-rise m (x ∷ rows) r = (subst (λ (n : ℕ). m < n) (sym (keeps x)) (r .0), subst (λ (n : ℕ). Rising n (map offered rows)) (sym (keeps x)) (rows-rise (x .number) rows (r .1)))
+
+  pub rows-granted : (rows : List Category) → Rise 0 rows → Granted asked (map offered rows) (bestOf asked (map offered rows))
+  rows-granted rows r = best-granted asked 0 (map offered rows) (rows-rise 0 rows r)
+
+-- ---- for the sheet of one order
 module _ (b : RuleBook) (f : Facts) (o : Order) where
-  may-stands : (r : Category) → MayBeGranted b f o r → stands (o .asked) (offerOf b f o r) ≡ true
+  offer-keeps : KeepsNumber (offerOf b f o)
   unfolding offerOf
-  may-stands r m = ap₂ _&&_ (le-leb (o .asked) (r .number) (m .asked)) (eq-eqb (brokenBy b r f o) 0 (m .unbroken))
+  offer-keeps c = refl
 
-  stands-may : (r : Category) → stands (o .asked) (offerOf b f o r) ≡ true → MayBeGranted b f o r
+  pub may-offered : (c : Category) → Among c (b .rows) → MayBeGranted b f o c → Stands (o .asked) (offersOf b f o) (c .number) (speedOf c f o)
   unfolding offerOf
-  stands-may r e =
-      let t = both (leb (o .asked) (r .number)) (eqb (brokenBy b r f o) 0) e in
-      record { asked = leb-true (o .asked) (r .number) (t .0); unbroken = eqb-true (brokenBy b r f o) 0 (t .1) }
-
-  pub may-offered : (rows : List Category) (r : Category) → Among r rows → MayBeGranted b f o r → Stands (o .asked) (map (offerOf b f o) rows) (r .number) (speedOf r f o)
-  unfolding offerOf
-  may-offered [] r a m = a
-  may-offered (x ∷ rows) r (inl e) m = inl (ap (λ (y : Category). stands (o .asked) (offerOf b f o y)) (sym e) ∙ may-stands r m, ap (λ (y : Category). y .number) e, ap (λ (y : Category). speedOf y f o) e)
-  may-offered (x ∷ rows) r (inr a) m = inr (may-offered rows r a m)
-
-  -- a row of the list that stands, with this number and speed
-  record Found (rows : List Category) (n s : ℕ) : Type 0 where
-    pub row : Category
-    pub among : Among row rows
-    pub may : MayBeGranted b f o row
-    pub number : n ≡ row .number
-    pub speed : s ≡ speedOf row f o
-
-  found : (rows : List Category) (n s : ℕ) → Stands (o .asked) (map (offerOf b f o) rows) n s → Found rows n s
-  unfolding offerOf
-  found [] n s w = absurd w
-  found (x ∷ rows) n s (inl w) = record { row = x; among = inl refl; may = stands-may x (w .0); number = w .1; speed = w .2 }
-  found (x ∷ rows) n s (inr w) = let y = found rows n s w in record { row = y .row; among = inr (y .among); may = y .may; number = y .number; speed = y .speed }
+  may-offered c a m = among-stands (o .asked) (offerOf b f o) offer-keeps (b .rows) c a (stands-exactly (o .asked) (offerOf b f o c) .1 (m .asked) (m .unbroken))
 
   pub offered-may : (n s : ℕ) → Stands (o .asked) (offersOf b f o) n s → Offered b f o n s
-  offered-may n s w = let y = found (b .rows) n s w in record { category = y .row; among = y .among; may = y .may; number = y .number; speed = y .speed }
-
-  rows-rise : (m : ℕ) (rows : List Category) → Rise m rows → Rising (o .asked) m (map (offerOf b f o) rows)
   unfolding offerOf
-  rows-rise m [] r = tt
-  rows-rise m (x ∷ rows) r = (r .0, rows-rise (x .number) rows (r .1))
+  offered-may n s w =
+      let y = stands-among (o .asked) (offerOf b f o) offer-keeps (b .rows) n s w in
+      let t = stands-exactly (o .asked) (offerOf b f o (y .category)) .0 (y .stands) in
+      record { category = y .category; among = y .among; may = record { asked = t .0; unbroken = t .1 }; number = y .number; speed = y .speed }
 
   pub is-granted : Rise 0 (b .rows) → Granted (o .asked) (offersOf b f o) (grantedOf b f o)
   unfolding grantedOf
-  is-granted r = best-granted (o .asked) 0 (offersOf b f o) (rows-rise 0 (b .rows) r)
+  is-granted r = rows-granted (o .asked) (offerOf b f o) offer-keeps (b .rows) r

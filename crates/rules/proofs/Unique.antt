@@ -10,6 +10,9 @@ use Rattle.rules.proofs.category.Category.line_speed.Reads as line-spee
 use Rattle.rules.proofs.category.Category.speed_on as speed-on
 use Rattle.rules.proofs.category.Category.speed_on.Kinds as speed-on-kinds
 use Rattle.rules.proofs.category.Category.speed_on.Reads as speed-on-reads
+use Rattle.rules.proofs.category.Category.speed_for as speed-for
+use Rattle.rules.proofs.category.Category.speed_for.Kinds as speed-for-kinds
+use Rattle.rules.proofs.category.Category.speed_for.Reads as speed-for-reads
 use Rattle.rules.proofs.category.Category.percentage_on as percentage-on
 use Rattle.rules.proofs.category.Category.percentage_on.Kinds as percentage-on-kinds
 use Rattle.rules.proofs.category.Category.percentage_on.Reads as percentage-on-reads
@@ -36,6 +39,10 @@ line-speed-unique κs a s s′ p q = p ∙ sym q
 pub speed-on-unique : (κs : Lfts 0) (a : ArgsD speed-on.signature κs) {r r′ : ResD speed-on.signature κs} (s s′ : AtExit (endedOf 0 speed-on-kinds.ps speed-on-kinds.r) κs)
     → speed-on-reads.Post κs a r s → speed-on-reads.Post κs a r′ s′ → r ≡ r′
 speed-on-unique κs a s s′ p q = p ∙ sym q
+
+pub speed-for-unique : (κs : Lfts 0) (a : ArgsD speed-for.signature κs) {r r′ : ResD speed-for.signature κs} (s s′ : AtExit (endedOf 0 speed-for-kinds.ps speed-for-kinds.r) κs)
+    → speed-for-reads.Post κs a r s → speed-for-reads.Post κs a r′ s′ → r ≡ r′
+speed-for-unique κs a s s′ p q = p ∙ sym q
 
 pub percentage-on-unique : (κs : Lfts 0) (a : ArgsD percentage-on.signature κs) {r r′ : ResD percentage-on.signature κs} (s s′ : AtExit (endedOf 0 percentage-on-kinds.ps percentage-on-kinds.r) κs)
     → percentage-on-reads.Post κs a r s → percentage-on-reads.Post κs a r′ s′ → r ≡ r′

@@ -9,7 +9,7 @@ use Rattle.order.specs.declared.Order.{Order}
 use Rattle.rules.specs.declared.category.Category.{Category}
 use Rattle.rules.specs.declared.category.Weigh.the-variants.{Whole}
 
--- the first limit that is not missing, or 0
+-- the first number that is not 0, or 0: of limits the first that is not missing
 abbrev pub firstPresent : List ℕ → ℕ
 firstPresent [] = 0
 firstPresent (limit ∷ limits) = cond (limit is 0) (firstPresent limits) limit

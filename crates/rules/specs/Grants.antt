@@ -1,7 +1,7 @@
 -- Document 01, "The sheet": the first rule broken by each category, and the category granted, of any rule book.
-use Prim.Native.Nat.{ℕ, suc, _≤_}
+use Prim.Native.Nat.{ℕ, suc, _≤_, _<_}
 use mathlib.Core.Path.{_≡_}
-use mathlib.Core.Bool.{Bool, _&&_, cond}
+use mathlib.Core.Bool.{Bool, true, _&&_, cond}
 use mathlib.Core.List.{List, [], _∷_, map}
 use mathlib.Core.Logic.{_⊎_}
 use Rattle.record.specs.Words.{_is_, _atMost_}
@@ -73,3 +73,36 @@ pub record Offered (b : RuleBook) (f : Facts) (o : Order) (n s : ℕ) : Type 0 w
   pub may : MayBeGranted b f o category
   pub number : n ≡ category .number
   pub speed : s ≡ speedOf category f o
+
+-- ---- what is granted of any offers, said without computing it
+-- an offer of the list stands, with this number and speed
+abbrev pub Stands : ℕ → List Offer → ℕ → ℕ → Type 0
+Stands asked [] n s = ⊥
+Stands asked (x ∷ rest) n s = ((stands asked x ≡ true) × (n ≡ x .number) × (s ≡ x .speed)) ⊎ Stands asked rest n s
+
+-- the offers' numbers rise, from above m
+abbrev pub Rising : ℕ → List Offer → Type 0
+Rising m [] = Unit
+Rising m (x ∷ rest) = (m < x .number) × Rising (x .number) rest
+
+pub record Granted (asked : ℕ) (offers : List Offer) (g : Best) : Type 0 where
+  -- 0 is granted, at speed 0, only where none stands
+  pub none : g .number ≡ 0 → (n s : ℕ) → Stands asked offers n s → ⊥
+  pub noSpeed : g .number ≡ 0 → g .speed ≡ 0
+  -- any other number is that of one that stands
+  pub one : 0 < g .number → Stands asked offers (g .number) (g .speed)
+  -- none that stands is faster, and none as fast has a lower number
+  pub fastest : (n s : ℕ) → Stands asked offers n s → s ≤ g .speed
+  pub lowest : (n s : ℕ) → Stands asked offers n s → s ≡ g .speed → g .number ≤ n
+
+-- categories are offered under their own numbers
+abbrev pub KeepsNumber : (Category → Offer) → Type 0
+KeepsNumber offered = (c : Category) → offered c .number ≡ c .number
+
+-- a category of the rows stands as it is offered, with this number and speed
+pub record Standing (asked : ℕ) (offered : Category → Offer) (rows : List Category) (n s : ℕ) : Type 0 where
+  pub category : Category
+  pub among : Among category rows
+  pub stands : stands asked (offered category) ≡ true
+  pub number : n ≡ category .number
+  pub speed : s ≡ offered category .speed

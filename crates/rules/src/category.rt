@@ -2,7 +2,7 @@
 ghost use mathlib.Core.Path.{_≡_};
 ghost use Prim.Native.Nat.{max, min};
 ghost use lib.ListN.{drop};
-ghost use Rattle.rules.specs.Categories.{firstPresent, lineSpeed, percentageOf, categoryOf};
+ghost use Rattle.rules.specs.Categories.{firstPresent, lineSpeed, speedOf, percentageOf, categoryOf};
 ghost use Rattle.rules.specs.CrossBorder.{crossRows};
 use facts::Facts;
 use order::Order;
@@ -100,6 +100,14 @@ impl Category {
     {
         let others = lesser(line as u32, slowest as u32);
         lesser(self.speed as u32, others) as u8
+    }
+
+    // Its speed on the line of an order.
+    pub fn speed_for(self, f: Facts, o: Order) -> u8
+        ensures { λ r. ⌜ r ≡ speedOf self f o ⌝ }
+    {
+        let line = self.line_speed(o);
+        self.speed_on(line, f.slowest)
     }
 
     // p: the greater of the table's, here the same for every train, and the German timetable's.

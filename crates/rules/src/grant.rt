@@ -13,7 +13,7 @@ use facts::Facts;
 use order::Order;
 
 // A category as it is offered: its speed, and the first rule it breaks, or 0.
-pub(crate) struct Offer {
+pub struct Offer {
     pub number: u8,
     pub speed: u8,
     pub broken: u8,

@@ -1,4 +1,4 @@
-//! Prskavon for Rust: safe functions over the five of `include/prskavon.h`.
+//! Prskavon for Rust: safe functions over the seven of `include/prskavon.h`.
 //!
 //! The library takes any bytes and always returns, so no function here asks anything of its caller.
 //! An empty slice has a dangling pointer that is not null, which is all the header asks of it.
@@ -11,7 +11,10 @@ pub const ORDER: usize = 24;
 pub const SHEET: usize = 32;
 pub const ACCOUNT: usize = 128;
 
-/// What a call answers: number 0 is done, and the place is 0 save for number 3.
+/// The most sections that a route may have.
+pub const SECTIONS: usize = 64;
+
+/// What a call answers: number 0 is done, and the place is 0 save for number 3 and, of a route, number 4.
 #[derive(Clone, Copy, Debug, PartialEq, Eq)]
 pub struct Answer {
     pub number: u8,
@@ -28,6 +31,20 @@ pub struct Refusal {
 /// The account of hauled vehicles in order. One from elsewhere may be bad; the library then refuses it.
 #[derive(Clone, Copy, Debug, PartialEq, Eq)]
 pub struct Account(pub [u8; ACCOUNT]);
+
+/// What a route's call answers: beside the answer the granted category, 0 where none is.
+#[derive(Clone, Copy, Debug, PartialEq, Eq)]
+pub struct RouteAnswer {
+    pub answer: Answer,
+    pub category: u8,
+}
+
+/// The category granted from end to end, 0 where none is, and its speed on each section.
+#[derive(Clone, Debug, PartialEq, Eq)]
+pub struct Route {
+    pub category: u8,
+    pub speeds: Vec<u8>,
+}
 
 /// The sheet of a whole train, its working engines in front.
 pub fn sheet_of_train(vehicles: &[u8], order: &[u8]) -> Result<[u8; SHEET], Refusal> {
@@ -140,6 +157,69 @@ pub fn holds_the_speed(front: &[u8], back: &[u8]) -> Option<[u8; VEHICLE]> {
     (written == VEHICLE).then_some(vehicle)
 }
 
+/// The route of a whole train over 1 to 64 orders, a section each.
+pub fn route_of_train(vehicles: &[u8], orders: &[u8]) -> Result<Route, Refusal> {
+    let mut speeds = [0; SECTIONS];
+    let answer = write_route_of_train(vehicles, orders, &mut speeds);
+    answer.route(orders, &speeds)
+}
+
+/// The same into lent speeds: a byte is written for each section when done, none when refused.
+pub fn write_route_of_train(vehicles: &[u8], orders: &[u8], speeds: &mut [u8]) -> RouteAnswer {
+    // SAFETY: each pointer comes from a slice with its own length, so it is not null and good for that many bytes;
+    // `speeds` is borrowed mutably, so it overlaps neither of the others; any bytes are answered.
+    RouteAnswer::from(unsafe {
+        prskavon_route_of_train(
+            vehicles.as_ptr(),
+            vehicles.len(),
+            orders.as_ptr(),
+            orders.len(),
+            speeds.as_mut_ptr(),
+            speeds.len(),
+        )
+    })
+}
+
+/// The route of one or two working engines with the account of what they haul.
+pub fn route_of_account(engines: &[u8], hauled: &Account, orders: &[u8]) -> Result<Route, Refusal> {
+    let mut speeds = [0; SECTIONS];
+    write_route_of_account(engines, hauled, orders, &mut speeds).route(orders, &speeds)
+}
+
+/// The same into bytes of the caller's, a byte a section; a refused call leaves them as they were.
+pub fn write_route_of_account(
+    engines: &[u8],
+    hauled: &Account,
+    orders: &[u8],
+    speeds: &mut [u8],
+) -> RouteAnswer {
+    // SAFETY: each pointer comes from a slice or array with its own length, so it is not null and good for that many
+    // bytes; `speeds` is borrowed mutably, so it overlaps none of the others; any bytes are answered.
+    RouteAnswer::from(unsafe {
+        prskavon_route_of_account(
+            engines.as_ptr(),
+            engines.len(),
+            hauled.0.as_ptr(),
+            hauled.0.len(),
+            orders.as_ptr(),
+            orders.len(),
+            speeds.as_mut_ptr(),
+            speeds.len(),
+        )
+    })
+}
+
+impl RouteAnswer {
+    /// The route when done, which has as many sections as there are orders, else the refusal.
+    fn route(self, orders: &[u8], speeds: &[u8; SECTIONS]) -> Result<Route, Refusal> {
+        self.answer.done()?;
+        Ok(Route {
+            category: self.category,
+            speeds: speeds[..orders.len() / ORDER].to_vec(),
+        })
+    }
+}
+
 impl Answer {
     pub const DONE: Answer = Answer {
         number: 0,
@@ -157,12 +237,21 @@ impl Answer {
     }
 }
 
-/// The library's form of an answer: number + 256 * place.
+/// The library's form of an answer: number + 256 * place, and of a route + 2^32 * category.
 impl From<u64> for Answer {
     fn from(answer: u64) -> Self {
         Answer {
             number: (answer % 256) as u8,
-            place: (answer / 256) as usize,
+            place: (answer / 256 % (1 << 24)) as usize,
+        }
+    }
+}
+
+impl From<u64> for RouteAnswer {
+    fn from(answer: u64) -> Self {
+        RouteAnswer {
+            answer: Answer::from(answer),
+            category: (answer >> 32) as u8,
         }
     }
 }
@@ -180,8 +269,8 @@ impl Refusal {
             1 => "the list is empty or not a multiple of 24 bytes",
             2 => "more than 200 records together; in joining accounts, a joined figure above its ceiling",
             3 => "a field out of range; the place is the first such record, counted from 0",
-            4 => "the order record is not 24 bytes or has a field out of range",
-            5 => "the lent sheet is shorter than 32 bytes",
+            4 => "the order record is not 24 bytes or has a field out of range; of a route, the orders are not whole, none or more than 64, or the section at this place, counted from 0, is out of range or asks for another category",
+            5 => "the lent sheet is shorter than 32 bytes, or fewer bytes are lent than a route has sections",
             6 => "a working engine in a portion offered as hauled",
             7 => "an account with a figure above its ceiling",
             11 => "the first record is not a working engine; with engines lent apart, any of them is not",
@@ -244,4 +333,22 @@ extern "C" {
         vehicle: *mut u8,
         vehicle_len: usize,
     ) -> usize;
+    fn prskavon_route_of_train(
+        vehicles: *const u8,
+        vehicles_len: usize,
+        orders: *const u8,
+        orders_len: usize,
+        speeds: *mut u8,
+        speeds_len: usize,
+    ) -> u64;
+    fn prskavon_route_of_account(
+        engines: *const u8,
+        engines_len: usize,
+        hauled: *const u8,
+        hauled_len: usize,
+        orders: *const u8,
+        orders_len: usize,
+        speeds: *mut u8,
+        speeds_len: usize,
+    ) -> u64;
 }

@@ -5,8 +5,9 @@ use std::error::Error;
 use std::process::ExitCode;
 
 use prskavon_example::{
-    account_of, holds_the_speed, join, sheet_of_account, sheet_of_train, write_sheet_of_account,
-    write_sheet_of_train, Account, Answer, Refusal, ORDER, SHEET, VEHICLE,
+    account_of, holds_the_speed, join, route_of_account, route_of_train, sheet_of_account,
+    sheet_of_train, write_route_of_train, write_sheet_of_account, write_sheet_of_train, Account,
+    Answer, Refusal, Route, RouteAnswer, ORDER, SHEET, VEHICLE,
 };
 
 type Checked<T> = Result<T, Box<dyn Error>>;
@@ -32,6 +33,19 @@ const CATEGORY: [&str; 6] = [
 // Document 01 prints case A's line; case B's follows from its margin of -2 t, rule 47 and 43.0 t a wagon.
 const CASE_A: &str = "0 0 010164000000002020004400004d000070170000f41a000070170000a4060000";
 const CASE_B: &str = "0 0 010264002f0000202000feffff4d000070170000f41a0000b4140000a4060000";
+
+// The limits of a route's three sections. On the third ME100 is missing, so MA100 counts for category 2.
+const LIMITS: [[u8; 5]; 3] = [
+    [120, 100, 100, 100, 100],
+    [80, 90, 100, 100, 100],
+    [100, 0, 90, 90, 80],
+];
+
+// Slowest are 80 km/h in category 1, 90 in 2 and 90 in 3, and 4 and 5 break rule 32: so 2, on these sections at these
+// speeds. Each section for itself would be granted another.
+const ROUTE_CATEGORY: u8 = 2;
+const ROUTE_SPEEDS: [u8; 3] = [100, 90, 90];
+const ALONE: [(u8, u8); 3] = [(1, 120), (3, 100), (1, 100)];
 
 struct Vehicle {
     number: u64,
@@ -175,18 +189,79 @@ fn speed_holder(train: &[u8]) -> Checked<()> {
     expect(vehicle == first_wagon, "the first wagon holds the speed")
 }
 
-fn refused(answer: Answer, refusal: Refusal, sheet: &[u8; SHEET]) -> Checked<()> {
+/// Case A's orders for the three sections, one behind the other.
+fn orders(order: &[u8; ORDER]) -> Vec<u8> {
+    let mut orders = order.repeat(LIMITS.len());
+    for (section, limits) in orders.chunks_exact_mut(ORDER).zip(LIMITS) {
+        section[0..5].copy_from_slice(&limits);
+    }
+    orders
+}
+
+/// One category from end to end, and beside it what each section for itself would be granted.
+fn route(train: &[u8], orders: &[u8]) -> Checked<Route> {
+    let category = |number: u8| CATEGORY[usize::from(number)];
+    let route = route_of_train(train, orders)?;
+    println!("  {}", Answer::DONE);
+    let (asked, granted) = (category(orders[5]), category(route.category));
+    println!("  asked {asked}, granted {granted}");
+    expect(route.category == ROUTE_CATEGORY, "the route's category")?;
+    expect(route.speeds == ROUTE_SPEEDS, "the sections' speeds")?;
+    let sections = orders.chunks_exact(ORDER).zip(&route.speeds);
+    for (k, (order, speed)) in sections.enumerate() {
+        let sheet = sheet_of_train(train, order)?;
+        let (alone, at) = (category(sheet[1]), sheet[2]);
+        println!("  section {k}: {speed} km/h; for itself {alone} at {at} km/h");
+        expect((sheet[1], at) == ALONE[k], "the section for itself")?;
+    }
+    Ok(route)
+}
+
+/// Prints the refusal and holds it against the one that is due.
+fn given(answer: Answer, refusal: Refusal) -> Checked<()> {
     match answer.done() {
         Ok(()) => println!("  {answer}"),
         Err(given) => println!("  {given}"),
     }
-    expect(answer.done() == Err(refusal), &refusal.to_string())?;
+    expect(answer.done() == Err(refusal), &refusal.to_string())
+}
+
+fn refused(answer: Answer, refusal: Refusal, sheet: &[u8; SHEET]) -> Checked<()> {
+    given(answer, refusal)?;
     expect(
         *sheet == [0xaa; SHEET],
         "a refused sheet is not written at all",
     )?;
     println!("  the sheet was left as it was");
     Ok(())
+}
+
+fn refused_route(train: &[u8], orders: &[u8]) -> Checked<()> {
+    let mut speeds = [0xaa; LIMITS.len()];
+    let RouteAnswer { answer, category } = write_route_of_train(train, orders, &mut speeds);
+    let (number, place) = (4, 2);
+    given(answer, Refusal { number, place })?;
+    expect(category == 0, "a refusal gives category 0")?;
+    expect(
+        speeds == [0xaa; LIMITS.len()],
+        "a refused route writes nothing",
+    )?;
+    println!("  the speeds were left as they were");
+    Ok(())
+}
+
+fn routes(train: &[u8], order: &[u8; ORDER], account: &Account) -> Checked<()> {
+    let mut orders = orders(order);
+    println!("Case A's train on a route of three sections");
+    let whole = route(train, &orders)?;
+    println!("The same route, from the engine and the joined accounts");
+    let by_account = route_of_account(&train[..VEHICLE], account, &orders)?;
+    println!("  {}", Answer::DONE);
+    expect(by_account == whole, "the route does not depend on the cut")?;
+    println!("  the same category and speeds");
+    println!("A German percentage of 201 on the last section");
+    orders[2 * ORDER + 6] = 201;
+    refused_route(train, &orders)
 }
 
 fn tour() -> Checked<()> {
@@ -200,6 +275,7 @@ fn tour() -> Checked<()> {
     let mut account = by_portions(&train_a, &order, &whole)?;
     println!("The vehicle that holds the speed");
     speed_holder(&train_a)?;
+    routes(&train_a, &order, &account)?;
 
     let mut sheet = [0xaa; SHEET]; // a mark that no refused call may touch
     println!("A fourth vehicle with 25 axles");

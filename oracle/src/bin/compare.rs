@@ -10,10 +10,10 @@ use oracle::coverage::Scope;
 use oracle::diff::{Report, Run, KINDS};
 use oracle::speed;
 
-const USAGE: &str = "usage: compare diff SEED TRAINS JOINS
+const USAGE: &str = "usage: compare diff SEED TRAINS JOINS ROUTES
        compare soak N [SEED]
        compare speed
-       compare instructions library|model train|account|join|judge|refusal SIZE REPEAT";
+       compare instructions library|model train|account|join|judge|refusal|route|sheets SIZE REPEAT";
 
 /// The functions of the header, as they are declared there.
 mod c {
@@ -59,6 +59,24 @@ mod c {
             vehicle: *mut u8,
             vehicle_len: usize,
         ) -> usize;
+        pub fn prskavon_route_of_train(
+            vehicles: *const u8,
+            vehicles_len: usize,
+            orders: *const u8,
+            orders_len: usize,
+            speeds: *mut u8,
+            speeds_len: usize,
+        ) -> u64;
+        pub fn prskavon_route_of_account(
+            engines: *const u8,
+            engines_len: usize,
+            hauled: *const u8,
+            hauled_len: usize,
+            orders: *const u8,
+            orders_len: usize,
+            speeds: *mut u8,
+            speeds_len: usize,
+        ) -> u64;
     }
 }
 
@@ -136,6 +154,40 @@ impl Side for Library {
             )
         }
     }
+
+    fn route_of_train(&self, vehicles: &[u8], orders: &[u8], room: &mut [u8]) -> u64 {
+        unsafe {
+            c::prskavon_route_of_train(
+                vehicles.as_ptr(),
+                vehicles.len(),
+                orders.as_ptr(),
+                orders.len(),
+                room.as_mut_ptr(),
+                room.len(),
+            )
+        }
+    }
+
+    fn route_of_account(
+        &self,
+        engines: &[u8],
+        hauled: &[u8],
+        orders: &[u8],
+        room: &mut [u8],
+    ) -> u64 {
+        unsafe {
+            c::prskavon_route_of_account(
+                engines.as_ptr(),
+                engines.len(),
+                hauled.as_ptr(),
+                hauled.len(),
+                orders.as_ptr(),
+                orders.len(),
+                room.as_mut_ptr(),
+                room.len(),
+            )
+        }
+    }
 }
 
 fn main() -> ExitCode {
@@ -143,8 +195,10 @@ fn main() -> ExitCode {
     let arguments: Vec<&str> = arguments.iter().map(String::as_str).collect();
     let number = |text: &str| text.parse::<u64>().ok();
     let outcome = match arguments[..] {
-        ["diff", seed, trains, joins] => match (number(seed), number(trains), number(joins)) {
-            (Some(seed), Some(trains), Some(joins)) => Some(diff(seed, trains, joins)),
+        ["diff", seed, trains, joins, routes] => match [seed, trains, joins, routes].map(number) {
+            [Some(seed), Some(trains), Some(joins), Some(routes)] => {
+                Some(diff(seed, trains, joins, routes))
+            }
             _ => None,
         },
         ["soak", cases] => number(cases).map(|cases| soak(cases, 1)),
@@ -168,19 +222,19 @@ fn main() -> ExitCode {
     })
 }
 
-fn diff(seed: u64, trains: u64, joins: u64) -> ExitCode {
+fn diff(seed: u64, trains: u64, joins: u64, routes: u64) -> ExitCode {
     let run = Run {
         library: &Library,
         seed,
         done: &AtomicU64::new(0),
     };
-    finish(&run.cases(0..trains, 0..joins))
+    finish(&run.cases(0..trains, 0..joins, 0..routes))
 }
 
-/// Half trains and half joins, on two threads that take every other index.
+/// Trains, joins and routes, a third each, on two threads that take every other index.
 fn soak(cases: u64, seed: u64) -> ExitCode {
-    let joins = cases / 2;
-    let trains = cases - joins;
+    let (trains, joins) = (cases / 3, cases / 3);
+    let routes = cases - trains - joins;
     let done = AtomicU64::new(0);
     let half = |first: usize| {
         let run = Run {
@@ -189,7 +243,7 @@ fn soak(cases: u64, seed: u64) -> ExitCode {
             done: &done,
         };
         let every_other = |end: u64| (0..end).skip(first).step_by(2);
-        run.cases(every_other(trains), every_other(joins))
+        run.cases(every_other(trains), every_other(joins), every_other(routes))
     };
     let report = thread::scope(|scope| {
         let workers = [0, 1].map(|first| scope.spawn(move || half(first)));
@@ -221,7 +275,8 @@ fn finish(report: &Report) -> ExitCode {
     for (kind, count) in KINDS.iter().zip(report.kinds) {
         println!("  {kind:<24} {count:>9}");
     }
-    println!("  calls in all             {:>8}", report.calls);
+    println!("  routes in all            {:>9}", report.routes());
+    println!("  calls in all             {:>9}", report.calls);
     let missing = report.coverage.missing(Scope::Functions);
     for what in &missing {
         println!("never met: {what}");

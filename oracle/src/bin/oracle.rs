@@ -1,4 +1,4 @@
-//! The model alone: SHEET's line, files of cases with their lines, and counts.
+//! The model alone: SHEET's and ROUTE's lines, files of cases with their lines, and counts.
 
 use std::fs;
 use std::io::{self, Read, Write};
@@ -9,21 +9,31 @@ use std::sync::atomic::AtomicU64;
 use oracle::call::{Call, Inputs, Model};
 use oracle::coverage::{Coverage, Scope};
 use oracle::diff::Run;
-use oracle::gen::cases::cases;
-use oracle::gen::vectors::inputs;
-use oracle::line::{line, MOST_INPUT};
+use oracle::gen::cases::{cases, worked_route};
+use oracle::gen::vectors::{inputs, route_inputs};
+use oracle::line::{line, route_line, route_parts, MOST_INPUT, MOST_ROUTE};
+use oracle::route::SECTIONS;
 
-const USAGE: &str = "usage: oracle line | oracle vectors DIR SEED COUNT | oracle counts SEED N";
+const USAGE: &str = "usage: oracle line | oracle route | oracle vectors DIR SEED SHEETS ROUTES | oracle counts SEED N";
+
+/// The byte before an input that says whose it is.
+const SHEETS: u8 = 0;
+const ROUTES: u8 = 1;
 
 fn main() -> ExitCode {
     let arguments: Vec<String> = std::env::args().skip(1).collect();
     let arguments: Vec<&str> = arguments.iter().map(String::as_str).collect();
     let outcome = match arguments[..] {
-        ["line"] => write_line(),
-        ["vectors", folder, seed, count] => match (seed.parse(), count.parse()) {
-            (Ok(seed), Ok(count)) => vectors(Path::new(folder), seed, count),
-            _ => Err(io::Error::other(USAGE)),
-        },
+        ["line"] => write_line(MOST_INPUT, line),
+        ["route"] => write_line(MOST_ROUTE, route_line),
+        ["vectors", folder, seed, sheets, routes] => {
+            match (seed.parse(), sheets.parse(), routes.parse()) {
+                (Ok(seed), Ok(sheets), Ok(routes)) => {
+                    vectors(Path::new(folder), seed, sheets, routes)
+                }
+                _ => Err(io::Error::other(USAGE)),
+            }
+        }
         ["counts", seed, cases] => match (seed.parse(), cases.parse()) {
             (Ok(seed), Ok(cases)) => counts(seed, cases),
             _ => Err(io::Error::other(USAGE)),
@@ -36,51 +46,86 @@ fn main() -> ExitCode {
     })
 }
 
-fn write_line() -> io::Result<ExitCode> {
+fn write_line(most: usize, line: fn(&[u8]) -> String) -> io::Result<ExitCode> {
     let mut input = vec![];
     // The rest is ignored, and so it is not read.
     io::stdin()
         .lock()
-        .take(MOST_INPUT as u64)
+        .take(most as u64)
         .read_to_end(&mut input)?;
     io::stdout().write_all(line(&input).as_bytes())?;
     Ok(ExitCode::SUCCESS)
 }
 
-/// Frames of two bytes of length and an input each, and the line for each.
-fn vectors(folder: &Path, seed: u64, count: usize) -> io::Result<ExitCode> {
-    let mut frames = vec![];
-    let mut lines = String::new();
-    let mut coverage = Coverage::default();
+/// Inputs as VECTORS reads them, each behind its program and two bytes of length, and the line for each.
+#[derive(Default)]
+struct Frames {
+    bytes: Vec<u8>,
+    lines: String,
+    coverage: Coverage,
+}
+
+impl Frames {
+    fn add(&mut self, program: u8, input: &[u8], line: &str, call: Call) {
+        self.bytes.push(program);
+        self.bytes.extend((input.len() as u16).to_le_bytes());
+        self.bytes.extend(input);
+        self.lines += line;
+        let (answer, written) = call.outcome(&Model);
+        self.coverage.note(&call, answer, &written);
+    }
+}
+
+fn vectors(folder: &Path, seed: u64, sheets: usize, routes: usize) -> io::Result<ExitCode> {
+    let mut frames = Frames::default();
     for case in cases() {
         print!("case {:<19} {}", case.name, line(&case.draft.input()));
     }
-    for input in inputs(seed, count) {
-        frames.extend((input.len() as u16).to_le_bytes());
-        frames.extend(&input);
-        lines += &line(&input);
-        note(&mut coverage, &input);
+    print!(
+        "case {:<19} {}",
+        "A, three sections",
+        route_line(&worked_route())
+    );
+    for input in inputs(seed, sheets) {
+        frames.add(SHEETS, &input, &line(&input), sheet_call(&input));
+    }
+    for input in route_inputs(seed, routes) {
+        frames.add(ROUTES, &input, &route_line(&input), route_call(&input));
     }
     fs::create_dir_all(folder)?;
-    fs::write(folder.join("stdin"), &frames)?;
-    fs::write(folder.join("stdout"), &lines)?;
-    println!("{} bytes of frames, {} of lines", frames.len(), lines.len());
-    Ok(finish(&coverage, Scope::Line))
+    fs::write(folder.join("stdin"), &frames.bytes)?;
+    fs::write(folder.join("stdout"), &frames.lines)?;
+    println!(
+        "{} bytes of frames, {} of lines",
+        frames.bytes.len(),
+        frames.lines.len()
+    );
+    Ok(finish(&frames.coverage, Scope::Lines))
 }
 
-fn note(coverage: &mut Coverage, input: &[u8]) {
+fn sheet_call(input: &[u8]) -> Call {
     let input = &input[..input.len().min(MOST_INPUT)];
     let (order, vehicles) = input.split_at(input.len().min(24));
-    let call = Call {
+    Call {
         inputs: Inputs::Train {
             vehicles: vehicles.to_vec(),
             order: order.to_vec(),
         },
         room: 32,
         fill: 0,
-    };
-    let (answer, sheet) = call.outcome(&Model);
-    coverage.note(&call, answer, &sheet);
+    }
+}
+
+fn route_call(input: &[u8]) -> Call {
+    let (orders, vehicles) = route_parts(input);
+    Call {
+        inputs: Inputs::TrainRoute {
+            vehicles: vehicles.to_vec(),
+            orders: orders.to_vec(),
+        },
+        room: SECTIONS,
+        fill: 0,
+    }
 }
 
 /// The model on both sides: only what it meets is of interest.
@@ -90,7 +135,7 @@ fn counts(seed: u64, cases: u64) -> io::Result<ExitCode> {
         seed,
         done: &AtomicU64::new(0),
     };
-    let report = run.cases(0..cases, 0..cases);
+    let report = run.cases(0..cases, 0..cases, 0..cases);
     Ok(finish(&report.coverage, Scope::Functions))
 }
 

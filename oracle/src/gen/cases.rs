@@ -1,6 +1,7 @@
 //! Cases A to H of document 01, each with its neighbours.
 
 use super::draft::{aim, Draft, BRAKED_V, LENGTH, MASS};
+use super::routes::written;
 use crate::order::Order;
 use crate::vehicle::{Vehicle, ISOLATED, SET_TO_M, SET_TO_V, WAGON, WORKING_ENGINE};
 
@@ -43,6 +44,27 @@ pub fn cases() -> Vec<Case> {
 
 pub fn case_a() -> Draft {
     case_a_with(500)
+}
+
+/// Case A's order on three lines. By category, in km/h: 1 has 120, 80, 100; 2 has 100, 90, 90; 3 has 100, 100, 90.
+pub fn worked_sections() -> [Order; 3] {
+    let lines = [
+        [120, 100, 100, 100, 100],
+        [80, 90, 100, 100, 100],
+        // ME100 is missing, so MA100 counts for category 2.
+        [100, 0, 90, 90, 80],
+    ];
+    let order = case_a().order;
+    lines.map(|limits| Order { limits, ..order })
+}
+
+/// The input of ROUTE for them: how many sections, the orders, the vehicles.
+pub fn worked_route() -> Vec<u8> {
+    let sections = worked_sections();
+    let mut input = vec![sections.len() as u8];
+    input.extend(written(&sections));
+    input.extend(case_a().vehicles());
+    input
 }
 
 /// Case A with another V mass on its ten wagons; B has 430.

@@ -71,7 +71,7 @@ impl Span {
         u64::from_le_bytes(bytes)
     }
 
-    fn greatest(&self) -> u64 {
+    pub fn greatest(&self) -> u64 {
         u64::MAX >> (64 - 8 * self.width)
     }
 
@@ -120,7 +120,7 @@ pub fn refused_train(random: &mut Random, mut draft: Draft, refusals: &[u8]) -> 
 }
 
 /// Refusals 2 and 11 to 14.
-fn spoil_kinds_and_count(random: &mut Random, draft: &mut Draft, refusals: &[u8]) {
+pub fn spoil_kinds_and_count(random: &mut Random, draft: &mut Draft, refusals: &[u8]) {
     let has = |number: u8| refusals.contains(&number);
     let wagon = draft.hauled[0];
     if has(13) {

@@ -98,7 +98,7 @@ fn shuffled_kinds(random: &mut Random, draft: &Draft) -> Vec<u8> {
     bytes(&records)
 }
 
-fn call(random: &mut Random, inputs: Inputs, rooms: &[usize]) -> Call {
+pub fn call(random: &mut Random, inputs: Inputs, rooms: &[usize]) -> Call {
     Call {
         inputs,
         room: random.pick(rooms),
@@ -177,37 +177,47 @@ pub fn engines_call(random: &mut Random) -> Call {
     let wanted = some_refusals(random, refusals(Function::SheetOfAccount));
     let has = |number: u8| wanted.contains(&number);
     let draft = engines_and_hauled(random);
-    let mut engines = engines(random, draft.working, &wanted);
-    if has(3) {
-        damage_records(random, &mut engines);
-    }
-    if has(1) {
-        cut_short(random, &mut engines);
-    }
+    let engines = engines_apart(random, draft.working, &wanted);
     let mut order = draft.order.write().to_vec();
     if has(4) {
         damage_order(random, &mut order);
     }
-    let hauled = match random.below(20) {
-        _ if has(7) => bad_account(random),
-        _ if has(14) => empty_account(random),
-        0..8 => account_of(&draft.hauled).to_vec(),
-        8..14 => plausible(random).write().to_vec(),
-        14..16 => good_account(random).to_vec(),
-        16..19 => probed_account(random),
-        _ => any_account(random),
-    };
     let inputs = Inputs::Engines {
         engines,
-        hauled,
+        hauled: account_beside(random, &draft.hauled, &wanted),
         order,
     };
     let rooms: &[usize] = if has(5) { &[0, 31] } else { &[32, 32, 33, 40] };
     call(random, inputs, rooms)
 }
 
+/// The engines lent apart, with refusals 1, 2, 3, 11 and 13 where they are wanted.
+pub fn engines_apart(random: &mut Random, working: Vec<Vehicle>, wanted: &[u8]) -> Vec<u8> {
+    let mut engines = engines(random, working, wanted);
+    if wanted.contains(&3) {
+        damage_records(random, &mut engines);
+    }
+    if wanted.contains(&1) {
+        cut_short(random, &mut engines);
+    }
+    engines
+}
+
+/// The account beside them, of the hauled vehicles or any other, with refusals 7 and 14 where they are wanted.
+pub fn account_beside(random: &mut Random, hauled: &[Vehicle], wanted: &[u8]) -> Vec<u8> {
+    match random.below(20) {
+        _ if wanted.contains(&7) => bad_account(random),
+        _ if wanted.contains(&14) => empty_account(random),
+        0..8 => account_of(hauled).to_vec(),
+        8..14 => plausible(random).write().to_vec(),
+        14..16 => good_account(random).to_vec(),
+        16..19 => probed_account(random),
+        _ => any_account(random),
+    }
+}
+
 /// A train at a boundary, or engines and an order that have nothing to do with what is hauled.
-fn engines_and_hauled(random: &mut Random) -> Draft {
+pub fn engines_and_hauled(random: &mut Random) -> Draft {
     let mut draft = train(random, Size::Any);
     if random.percent(40) {
         draft.order = any_order(random);
@@ -219,7 +229,7 @@ fn engines_and_hauled(random: &mut Random) -> Draft {
 }
 
 /// None, one or two of a function's refusals, most often none.
-fn some_refusals(random: &mut Random, all: &[u8]) -> Vec<u8> {
+pub fn some_refusals(random: &mut Random, all: &[u8]) -> Vec<u8> {
     let wanted = random.pick(&[0, 0, 0, 0, 0, 0, 0, 1, 2, 2]);
     (0..wanted).map(|_| random.pick(all)).collect()
 }

@@ -7,5 +7,6 @@ pub mod draft;
 pub mod edges;
 pub mod margins;
 pub mod mixture;
+pub mod routes;
 pub mod trains;
 pub mod vectors;

@@ -1,10 +1,13 @@
-//! Inputs of SHEET for files of cases: the page's first, then random ones, most of them short.
+//! Inputs of SHEET and ROUTE for files of cases: the page's first, then random ones, most of them short.
 
-use super::cases::cases;
+use super::cases::{case_a, cases, worked_route};
 use super::mixture::train_call;
+use super::routes::{route_call, swept_journey, written};
 use super::trains::Size;
-use crate::call::Inputs;
+use crate::call::{Call, Inputs};
+use crate::order::ORDER;
 use crate::random::Random;
+use crate::routes::swept_few;
 
 /// The longest input of a frame.
 const MOST_FRAME: usize = 5_000;
@@ -20,7 +23,7 @@ pub fn inputs(seed: u64, count: usize) -> Vec<Vec<u8>> {
 
 /// Shorter than an order, at the end of it, and about the 4,848 bytes that are read.
 fn odd_lengths() -> Vec<Vec<u8>> {
-    let mut longest = super::cases::case_a();
+    let mut longest = case_a();
     longest.hauled.resize(210, longest.hauled[0]);
     longest.renumber();
     let mut bytes = longest.input();
@@ -49,4 +52,74 @@ fn random_input(random: &mut Random) -> Vec<u8> {
     }
     input.truncate(MOST_FRAME);
     input
+}
+
+/// Inputs of ROUTE: the worked one, odd ones, what is swept, then random ones up to the count.
+pub fn route_inputs(seed: u64, count: usize) -> Vec<Vec<u8>> {
+    let mut inputs = vec![worked_route()];
+    inputs.extend(odd_routes());
+    for (index, met) in (0..).zip(swept_few()) {
+        let mut random = Random::for_case(!seed, index);
+        inputs.extend(route_input(swept_journey(&mut random, met).of_train(0)));
+    }
+    let mut index = 1_000_000;
+    while inputs.len() < count {
+        index += 1;
+        let call = route_call(&mut Random::for_case(!seed, index), Size::Few);
+        inputs.extend(route_input(call).filter(|input| input.len() <= MOST_ROUTE));
+    }
+    inputs.truncate(count);
+    inputs
+}
+
+/// Random routes above this would fill the file; longer ones are among the odd and the swept.
+const MOST_ROUTE: usize = 1_200;
+
+/// The input that lends ROUTE the same vehicles and orders; none where the orders are not whole records.
+fn route_input(call: Call) -> Option<Vec<u8>> {
+    let Inputs::TrainRoute { vehicles, orders } = call.inputs else {
+        return None;
+    };
+    let whole = orders.len().is_multiple_of(ORDER);
+    let sections = u8::try_from(orders.len().div_ceil(ORDER)).ok()?;
+    // Orders that are cut short have nothing behind them.
+    let behind = if whole { vehicles } else { vec![] };
+    Some([vec![sections], orders, behind].concat())
+}
+
+/// Inputs that end in a count, in an order or in a vehicle, and counts that are no count of sections.
+fn odd_routes() -> Vec<Vec<u8>> {
+    let draft = case_a();
+    let vehicles = draft.vehicles();
+    let route = |sections: u8, there: usize, vehicles: &[u8]| {
+        let orders = written(&vec![draft.order; there]);
+        [&[sections], &orders[..], vehicles].concat()
+    };
+    let short = route(2, 2, &vehicles);
+    let lengths = [0, 1, 2, 24, 25, 26, 48, 49, 50, 72, 73, 74, 97, 312, 313];
+    let mut inputs: Vec<Vec<u8>> = lengths.map(|length| short[..length].to_vec()).to_vec();
+    for sections in [0, 1, 2, 3, 63, 64, 65, 66, 255] {
+        inputs.push(route(sections, usize::from(sections), &vehicles));
+        inputs.push(route(sections, usize::from(sections), &vehicles[..23]));
+        inputs.push(route(sections, 1, &vehicles));
+    }
+    let mut too_many = route(65, 65, &vehicles);
+    too_many[1 + 2 * ORDER + 6] = 201;
+    inputs.push(too_many);
+    let mut longest = draft.clone();
+    longest.hauled.resize(210, longest.hauled[0]);
+    for (sections, length) in [
+        (1, 4_800),
+        (1, 4_823),
+        (1, 4_824),
+        (1, 4_825),
+        (64, 4_800),
+        (255, 4_800),
+        (255, 4_824),
+        (255, 4_900),
+    ] {
+        let vehicles = &longest.vehicles()[..length];
+        inputs.push(route(sections, usize::from(sections), vehicles));
+    }
+    inputs
 }

@@ -1,18 +1,23 @@
 -- `bench::line_of` meets its contract: the parts of the input, the judging library's answer, the line of it. Assumes nothing.
-use mathlib.Core.Path.{refl}
+use mathlib.Core.Path.{refl, sym, ap, _∙_}
 use native.Mathlib.Omega.{arith}
 use denote.Ref.{now}
-use lib.ListN.{replicate}
-use Rattle.bench.proofs.Lines.{line-in-front, line-answer}
+use lib.ListN.{drop, replicate}
+use Rattle.bench.specs.Lines.{lineBy}
+use Rattle.bench.proofs.Texts.{in-front}
+use Rattle.bench.proofs.Lines.{line-length, line-answer}
 use borrow.Author.Needs.{needs}
 use Rattle.bench.proofs.line_of.Statement.{statement}
 use Rattle.bench.proofs.line_of.Tie as tie
 
-vehicle-part-requires : tie.Need-vehicle-part-requires
-vehicle-part-requires c κs = search needs
+front-requires : tie.Need-front-requires
+front-requires c κs = search needs
 
-order-part-requires : tie.Need-order-part-requires
-order-part-requires c κs = search needs
+front-requires-2 : tie.Need-front-requires-2
+front-requires-2 c κs = search needs
+
+behind-requires : tie.Need-behind-requires
+behind-requires c κs = search needs
 
 slice-aggregate-sheet-of-train : tie.Need-slice-aggregate-sheet-of-train
 slice-aggregate-sheet-of-train c = search needs
@@ -34,17 +39,25 @@ put-line-requires c κs = search needs
 
 returns : tie.Need-returns
 returns c =
-    let a = c .before .before .before .before .before .before .before .before .before .before .before .args in
-    let judged = c .before .before .before .before .before .before .sheet-of-train .ensures in
-    let e = line-answer (now (a .input)) (now (c .before .before .before .before .before .before .before .before .before .vehicle-part .result)) (now (c .before .before .before .before .before .before .before .before .order-part .result)) (replicate 32 0) refl (c .before .before .before .before .before .before .before .before .before .vehicle-part .ensures) (c .before .before .before .before .before .before .before .before .order-part .ensures) (judged .0) (judged .1) (c .before .before .before .before .number-of .ensures) (c .before .before .before .place-of .ensures) in
-    line-in-front (now (a .line)) (now (a .input)) (omega arith) e (c .put-line .ensures .0) (c .put-line .ensures .1)
+    let a = c .before .before .before .before .before .before .before .before .before .before .before .before .args in
+    let order = c .before .before .before .before .before .before .before .before .before .before .front in
+    let all = c .before .before .before .before .before .before .before .before .before .front2 in
+    let train = c .before .before .before .before .before .before .before .before .behind in
+    let judged = c .before .before .before .before .before .before .sheet-of-train in
+    let sheet = judged .last .1 .1 .0 in
+    let number = c .before .before .before .before .number-of in
+    let place = c .before .before .before .place-of in
+    let e = line-answer (now (a .input)) (now (train .result)) (now (order .result)) (replicate 32 0) refl (train .ensures ∙ ap (drop 24) (all .ensures)) (order .ensures) (judged .ensures .0) (judged .ensures .1) (number .ensures) (place .ensures) in
+    let long = line-length (number .result) (place .result) sheet (sym (slice-aggregate-put-line (c .before .before))) in
+    in-front (now (a .line)) (lineBy (number .result) (place .result) sheet) (omega (arith, long)) e (c .put-line .ensures .0) (c .put-line .ensures .1)
 
 pub line-of-spec : {M : Type 1} → statement M
 line-of-spec =
     tie.close
     (tie.spec
-    vehicle-part-requires
-    order-part-requires
+    front-requires
+    front-requires-2
+    behind-requires
     slice-aggregate-sheet-of-train
     sheet-of-train-requires
     number-of-requires

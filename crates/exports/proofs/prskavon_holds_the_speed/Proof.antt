@@ -21,8 +21,7 @@ holds-the-speed-requires c κs = search needs
 
 copy-requires : tie.Need-copy-requires
 copy-requires c κs =
-    let a = c .before .before .before .before .before .before .args in
-    omega (arith, ap length (c .before .holds-the-speed .ensures), vehicle-fits (now (a .front)) (now (a .back)), c .before .before .if1 .left)
+    omega (arith, vehicle-fits _ _ _ (c .before .holds-the-speed .ensures), c .before .before .if1 .left)
 
 same-length : tie.Need-same-length
 same-length c = search needs

@@ -1,10 +1,9 @@
 -- `exports::prskavon_sheet_of_account` meets its contract: it is the judging library's. Assumes nothing.
 use mathlib.Core.Path.{ap, _∙_}
-use native.Mathlib.Omega.{arith}
 use denote.Ref.{now}
 use lib.ListN.{length}
 use Rattle.account.specs.declared.Account.{Account}
-use Rattle.judge.specs.Answers.{placeOf, accountAnswer, accountSheet}
+use Rattle.judge.specs.Answers.{accountAnswer, accountSheet}
 use Rattle.exports.specs.Lent.{sheetNumber}
 use Rattle.exports.proofs.Lent.{account-place}
 use borrow.Author.Needs.{needs}
@@ -18,14 +17,7 @@ sheet-of-account-requires : tie.Need-sheet-of-account-requires
 sheet-of-account-requires c κs = search needs
 
 sheet-number-requires : tie.Need-sheet-number-requires
-sheet-number-requires c κs =
-    let o = c .before .before .before .before in
-    let a = o .before .before .before .before .before .args in
-    omega (
-      arith,
-      ap placeOf (c .before .before .sheet-of-account .ensures .0),
-      account-place (now (a .engines)) (o .offered-by .result) (now (a .order)) (length (now (a .sheet))),
-    )
+sheet-number-requires c κs = account-place _ _ _ _ _ (c .before .before .sheet-of-account .ensures .0)
 
 same-length : tie.Need-same-length
 same-length c = search needs

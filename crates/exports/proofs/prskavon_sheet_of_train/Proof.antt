@@ -1,9 +1,5 @@
 -- `exports::prskavon_sheet_of_train` meets its contract: it is the judging library's. Assumes nothing.
 use mathlib.Core.Path.{ap, _∙_}
-use native.Mathlib.Omega.{arith}
-use denote.Ref.{now}
-use lib.ListN.{length}
-use Rattle.judge.specs.Answers.{placeOf}
 use Rattle.exports.specs.Lent.{sheetNumber}
 use Rattle.exports.proofs.Lent.{train-place}
 use borrow.Author.Needs.{needs}
@@ -14,9 +10,7 @@ sheet-of-train-requires : tie.Need-sheet-of-train-requires
 sheet-of-train-requires c κs = search needs
 
 sheet-number-requires : tie.Need-sheet-number-requires
-sheet-number-requires c κs =
-    let a = c .before .before .before .before .before .before .before .args in
-    omega (arith, ap placeOf (c .before .before .sheet-of-train .ensures .0), train-place (now (a .vehicles)) (now (a .order)) (length (now (a .sheet))))
+sheet-number-requires c κs = train-place _ _ _ _ (c .before .before .sheet-of-train .ensures .0)
 
 same-length : tie.Need-same-length
 same-length c = search needs

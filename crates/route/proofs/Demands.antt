@@ -1,0 +1,210 @@
+-- Request One: the theorems of routes, over the definitions of specs/. Assumes nothing.
+use Prim.Native.Nat.{ℕ, _≤_, _<_}
+use native.Mathlib.Omega.{arith}
+use mathlib.Core.Path.{_≡_, refl, sym, ap, ap₂, _∙_}
+use mathlib.Core.Bool.{Bool, true, false}
+use mathlib.Core.List.{List, [], _∷_, _++_, map}
+use borrow.Author.Tests.{lt-ltb}
+use lib.ListN.{length, take, drop, getD, replicate}
+use Rattle.record.specs.Words.{all, leading, Every, Case, caseAt}
+use Rattle.record.specs.Records.{recordCount, recordsOf}
+use Rattle.record.specs.Vehicles.{good, vehicles, isWorking}
+use Rattle.account.specs.Accounts.{accountOf}
+use Rattle.account.specs.Portions.{accounted}
+use Rattle.account.specs.Groupings.{Grouping, uncut, joinedBytes, BetweenRecords, GoodPortion, NoneRefused}
+use Rattle.account.specs.declared.Account.{Account}
+use Rattle.account.specs.declared.Accounted.{Accounted}
+use Rattle.account.specs.declared.Answer.the-variants.{Done as Accepted}
+use Rattle.account.proofs.Demands.{any-grouping-done, portion-done-exactly}
+use Rattle.facts.specs.Engines.{GoodEngines}
+use Rattle.facts.specs.Facts.{factsOf, factsBeside}
+use Rattle.facts.specs.declared.Facts.{Facts}
+use Rattle.order.specs.declared.Order.{Order}
+use Rattle.rules.specs.CrossBorder.{crossBorder}
+use Rattle.rules.specs.Grants.{grantedOf}
+use Rattle.sections.specs.Sections.{sectionsOf, askedIn, goodSection, leadingGood}
+use Rattle.sections.proofs.Demands.{sections-count, first-bad-section}
+use Rattle.sheets.specs.Sheets.{sheetLength}
+use Rattle.judge.specs.Answers.{numberOf, placeOf, refusal, isDone, orderRefusals, written}
+use Rattle.judge.specs.Answers as of-sheets
+use Rattle.judge.specs.declared.Answer.{Answer}
+use Rattle.judge.specs.declared.Answer.the-variants.{Done, BadOrder}
+use Rattle.judge.proofs.Demands as judge
+use Rattle.route.specs.Answers.{sectionRefusals, trainRefusals, accountRefusals, grantedFor, speedsFor, routeBy, trainAnswer, trainRoute, trainSpeeds, accountAnswer, accountRoute, accountSpeeds}
+use Rattle.route.specs.Shown.{Shows}
+use Rattle.route.proofs.Routes.{sections-refusing, some-bad, sections-good, sections-room, speeds-long}
+use Rattle.route.proofs.Shown.{shows-done}
+use Rattle.route.proofs.Single.{single-granted, single-speeds, single-answer, section-alone, section-order}
+
+-- ---- demand 1: every input is answered
+-- "Refusals, in 01's order": the numbers, and their places; judge's answered-in-order says which is given
+pub train-numbers : (bs orders : List ℕ) (room : ℕ) → map (λ (r : Case Answer). numberOf (r .gives)) (trainRefusals bs orders room) ≡ 1 ∷ 2 ∷ 3 ∷ 4 ∷ 4 ∷ 5 ∷ 11 ∷ 12 ∷ 13 ∷ 14 ∷ []
+unfolding trainRefusals
+train-numbers bs orders room = refl
+
+pub train-places : (bs orders : List ℕ) (room : ℕ)
+    → map (λ (r : Case Answer). placeOf (r .gives)) (trainRefusals bs orders room) ≡ 0 ∷ 0 ∷ leading good (recordsOf bs) ∷ 0 ∷ leadingGood orders ∷ 0 ∷ 0 ∷ 0 ∷ 0 ∷ 0 ∷ []
+unfolding trainRefusals
+train-places bs orders room = refl
+
+pub account-numbers : (bs : List ℕ) (hauled : Account) (orders : List ℕ) (room : ℕ)
+    → map (λ (r : Case Answer). numberOf (r .gives)) (accountRefusals bs hauled orders room) ≡ 1 ∷ 7 ∷ 2 ∷ 3 ∷ 4 ∷ 4 ∷ 5 ∷ 11 ∷ 13 ∷ 14 ∷ []
+unfolding accountRefusals
+account-numbers bs hauled orders room = refl
+
+pub account-places : (bs : List ℕ) (hauled : Account) (orders : List ℕ) (room : ℕ)
+    → map (λ (r : Case Answer). placeOf (r .gives)) (accountRefusals bs hauled orders room) ≡ 0 ∷ 0 ∷ 0 ∷ leading good (recordsOf bs) ∷ 0 ∷ leadingGood orders ∷ 0 ∷ 0 ∷ 0 ∷ 0 ∷ []
+unfolding accountRefusals
+account-places bs hauled orders room = refl
+
+-- "a refusal writes nothing and gives category 0"
+pub train-refused : (bs orders speeds : List ℕ) → isDone (trainAnswer bs orders (length speeds)) ≡ false
+    → (trainRoute bs orders (length speeds) .granted ≡ 0) × (trainSpeeds bs orders speeds ≡ speeds)
+train-refused bs orders speeds e = (rw e, judge.refused-unwritten (trainAnswer bs orders (length speeds)) (speedsFor (factsOf (vehicles bs)) orders) speeds e)
+
+pub account-refused : (bs : List ℕ) (hauled : Account) (orders speeds : List ℕ) → isDone (accountAnswer bs hauled orders (length speeds)) ≡ false
+    → (accountRoute bs hauled orders (length speeds) .granted ≡ 0) × (accountSpeeds bs hauled orders speeds ≡ speeds)
+account-refused bs hauled orders speeds e =
+    (rw e, judge.refused-unwritten (accountAnswer bs hauled orders (length speeds)) (speedsFor (factsBeside (vehicles bs) hauled) orders) speeds e)
+
+-- "for each section one byte … and no byte beyond the last section's"
+pub one-byte-a-section : (f : Facts) (orders : List ℕ) → length (speedsFor f orders) ≡ recordCount orders
+one-byte-a-section = speeds-long
+
+-- 4 with its place: the first section with a field out of range or an asked category other than the first section's
+pub bad-section : (orders : List ℕ) (room i : ℕ) → i < recordCount orders → all (goodSection (askedIn orders)) (take i (recordsOf orders)) ≡ true
+    → goodSection (askedIn orders) (getD (recordsOf orders) i []) ≡ false → caseAt Done (sectionRefusals orders room) 1 ≡ refusal (BadOrder i) true
+bad-section orders room i h before bad =
+    let place = first-bad-section orders i h before bad in
+    ap₂ (λ (k : ℕ) (b : Bool). refusal (BadOrder k) b) place (sym (some-bad orders i (sym place)) ∙ lt-ltb i (recordCount orders) h)
+
+-- 4 at 0, 1, 64 and 65 sections and for 25 bytes, and 5 for two sections with room for one and for two
+pub section-limits :
+    (map (λ (n : ℕ). caseAt Done (sectionRefusals (replicate n 0) 0) 0 .applies) (0 ∷ 24 ∷ 25 ∷ 1536 ∷ 1560 ∷ []) ≡ true ∷ false ∷ true ∷ false ∷ true ∷ [])
+    × (map (λ (room : ℕ). caseAt Done (sectionRefusals (replicate 48 0) room) 2 .applies) (1 ∷ 2 ∷ []) ≡ true ∷ false ∷ [])
+section-limits = (refl, refl)
+
+-- where a route is done, nothing is refused of its orders and the room
+train-orders : (bs orders : List ℕ) (room : ℕ) → trainAnswer bs orders room ≡ Done → Every (λ c. c .applies ≡ false) (sectionRefusals orders room)
+unfolding trainRefusals
+train-orders bs orders room done = judge.train-lent bs (sectionRefusals orders room) (sections-refusing orders room) (ap isDone done)
+
+account-orders : (bs : List ℕ) (hauled : Account) (orders : List ℕ) (room : ℕ) → accountAnswer bs hauled orders room ≡ Done → Every (λ c. c .applies ≡ false) (sectionRefusals orders room)
+unfolding accountRefusals
+account-orders bs hauled orders room done = judge.account-lent bs hauled (sectionRefusals orders room) (sections-refusing orders room) (ap isDone done)
+
+-- ---- demand 2 over every section: what a route that is done gives
+pub train-shows : (bs orders speeds : List ℕ) → trainAnswer bs orders (length speeds) ≡ Done
+    → Shows (factsOf (vehicles bs)) (sectionsOf orders) (trainRoute bs orders (length speeds) .granted) speeds (trainSpeeds bs orders speeds)
+train-shows bs orders speeds done =
+    shows-done (trainAnswer bs orders (length speeds)) (factsOf (vehicles bs)) orders speeds done
+    (sections-good orders (length speeds) (train-orders bs orders (length speeds) done))
+    (sections-room orders (length speeds) (train-orders bs orders (length speeds) done))
+
+pub account-shows : (bs : List ℕ) (hauled : Account) (orders speeds : List ℕ) → accountAnswer bs hauled orders (length speeds) ≡ Done
+    → Shows (factsBeside (vehicles bs) hauled) (sectionsOf orders) (accountRoute bs hauled orders (length speeds) .granted) speeds (accountSpeeds bs hauled orders speeds)
+account-shows bs hauled orders speeds done =
+    shows-done (accountAnswer bs hauled orders (length speeds)) (factsBeside (vehicles bs) hauled) orders speeds done
+    (sections-good orders (length speeds) (account-orders bs hauled orders (length speeds) done))
+    (sections-room orders (length speeds) (account-orders bs hauled orders (length speeds) done))
+
+-- ---- "one section must give today's granted category and speed": the answer of the sheet, and its bytes 1 and 2
+module _ (order : List ℕ) (whole : length order ≡ 24) (sheet : List ℕ) (fits : sheetLength ≤ length sheet) (first : ℕ) (rest : List ℕ) where
+  pub one-section-answer : (bs : List ℕ) → trainAnswer bs order (length (first ∷ rest)) ≡ of-sheets.trainAnswer bs order (length sheet)
+  unfolding trainRefusals of-sheets.trainRefusals
+  one-section-answer bs =
+      judge.train-around-same bs (sectionRefusals order (length (first ∷ rest))) (orderRefusals order (length sheet)) (sections-refusing order (length (first ∷ rest))) (refl, (refl, tt))
+      (single-answer order whole (length (first ∷ rest)) (length sheet) (omega arith) fits)
+
+  pub one-section-granted : (bs : List ℕ) → of-sheets.trainAnswer bs order (length sheet) ≡ Done
+      → (trainRoute bs order (length (first ∷ rest)) .granted ≡ getD (of-sheets.trainSheet bs order sheet) 1 0)
+      × (trainSpeeds bs order (first ∷ rest) ≡ getD (of-sheets.trainSheet bs order sheet) 2 0 ∷ rest)
+  one-section-granted bs done =
+      let shown = judge.train-shows bs order sheet done in
+      let same = one-section-answer bs ∙ done in (
+        ap (λ (a : Answer). routeBy a (grantedFor (factsOf (vehicles bs)) order) .granted) same ∙ single-granted order whole (factsOf (vehicles bs)) ∙ sym (shown .granted),
+        ap (λ (a : Answer). written a (speedsFor (factsOf (vehicles bs)) order) (first ∷ rest)) same
+            ∙ ap (λ (bytes : List ℕ). bytes ++ drop (length bytes) (first ∷ rest)) (single-speeds order whole (factsOf (vehicles bs)))
+            ∙ ap (λ (s : ℕ). s ∷ rest) (sym (shown .speed)),
+      )
+
+  pub one-section-of-account : (bs : List ℕ) (hauled : Account) → accountAnswer bs hauled order (length (first ∷ rest)) ≡ of-sheets.accountAnswer bs hauled order (length sheet)
+  unfolding accountRefusals of-sheets.accountRefusals
+  one-section-of-account bs hauled =
+      judge.account-around-same bs hauled (sectionRefusals order (length (first ∷ rest))) (orderRefusals order (length sheet)) (sections-refusing order (length (first ∷ rest))) (refl, (refl, tt))
+      (single-answer order whole (length (first ∷ rest)) (length sheet) (omega arith) fits)
+
+  pub one-section-granted-of-account : (bs : List ℕ) (hauled : Account) → of-sheets.accountAnswer bs hauled order (length sheet) ≡ Done
+      → (accountRoute bs hauled order (length (first ∷ rest)) .granted ≡ getD (of-sheets.accountSheet bs hauled order sheet) 1 0)
+      × (accountSpeeds bs hauled order (first ∷ rest) ≡ getD (of-sheets.accountSheet bs hauled order sheet) 2 0 ∷ rest)
+  one-section-granted-of-account bs hauled done =
+      let f = factsBeside (vehicles bs) hauled in
+      let shown = judge.account-shows bs hauled order sheet done in
+      let same = one-section-of-account bs hauled ∙ done in (
+        ap (λ (a : Answer). routeBy a (grantedFor f order) .granted) same ∙ single-granted order whole f ∙ sym (shown .granted),
+        ap (λ (a : Answer). written a (speedsFor f order) (first ∷ rest)) same
+            ∙ ap (λ (bytes : List ℕ). bytes ++ drop (length bytes) (first ∷ rest)) (single-speeds order whole f)
+            ∙ ap (λ (s : ℕ). s ∷ rest) (sym (shown .speed)),
+      )
+
+-- ---- a section of a route that is done, alone: its order has a sheet, and where that grants the route's category its speed is the section's byte
+module _ (orders speeds sheet : List ℕ) (fits : sheetLength ≤ length sheet) (i : ℕ) (there : i < recordCount orders) where
+  abbrev order : List ℕ
+  order = getD (recordsOf orders) i []
+
+  module _ (bs : List ℕ) (done : trainAnswer bs orders (length speeds) ≡ Done) where
+    pub section-has-a-sheet : of-sheets.trainAnswer bs order (length sheet) ≡ Done
+    unfolding trainRefusals of-sheets.trainRefusals
+    section-has-a-sheet =
+        sym (judge.train-around-same bs (sectionRefusals orders (length speeds)) (orderRefusals order (length sheet)) (sections-refusing orders (length speeds)) (refl, (refl, tt))
+        (section-alone orders (length speeds) (length sheet) i there fits (train-orders bs orders (length speeds) done)))
+        ∙ done
+
+    pub section-sheet : getD (of-sheets.trainSheet bs order sheet) 1 0 ≡ trainRoute bs orders (length speeds) .granted → getD (trainSpeeds bs orders speeds) i 0 ≡ getD (of-sheets.trainSheet bs order sheet) 2 0
+    section-sheet same =
+        let shown = judge.train-shows bs order sheet section-has-a-sheet in
+        let o = section-order orders i there in
+        train-shows bs orders speeds done .alone i (omega (arith, there, sections-count orders)) (ap (λ (x : Order). grantedOf crossBorder (factsOf (vehicles bs)) x .number) o ∙ sym (shown .granted) ∙ same)
+        ∙ ap (λ (x : Order). grantedOf crossBorder (factsOf (vehicles bs)) x .speed) o
+        ∙ sym (shown .speed)
+
+  module _ (bs : List ℕ) (hauled : Account) (done : accountAnswer bs hauled orders (length speeds) ≡ Done) where
+    pub section-has-a-sheet-of-account : of-sheets.accountAnswer bs hauled order (length sheet) ≡ Done
+    unfolding accountRefusals of-sheets.accountRefusals
+    section-has-a-sheet-of-account =
+        sym (judge.account-around-same bs hauled (sectionRefusals orders (length speeds)) (orderRefusals order (length sheet)) (sections-refusing orders (length speeds)) (refl, (refl, tt))
+        (section-alone orders (length speeds) (length sheet) i there fits (account-orders bs hauled orders (length speeds) done)))
+        ∙ done
+
+    pub section-sheet-of-account : getD (of-sheets.accountSheet bs hauled order sheet) 1 0 ≡ accountRoute bs hauled orders (length speeds) .granted
+        → getD (accountSpeeds bs hauled orders speeds) i 0 ≡ getD (of-sheets.accountSheet bs hauled order sheet) 2 0
+    section-sheet-of-account same =
+        let f = factsBeside (vehicles bs) hauled in
+        let shown = judge.account-shows bs hauled order sheet section-has-a-sheet-of-account in
+        let o = section-order orders i there in
+        account-shows bs hauled orders speeds done .alone i (omega (arith, there, sections-count orders)) (ap (λ (x : Order). grantedOf crossBorder f x .number) o ∙ sym (shown .granted) ∙ same)
+        ∙ ap (λ (x : Order). grantedOf crossBorder f x .speed) o
+        ∙ sym (shown .speed)
+
+-- ---- "Demand 3 stands unchanged, since the account knows no line"
+-- with one or two good working engines in front, portions cut anywhere between records and joined in any grouping give the route of the uncut train
+module _ (engines : List ℕ) (g : Grouping ℕ) (orders speeds : List ℕ) (e : GoodEngines engines) (working : all isWorking (vehicles engines) ≡ true) (cut : BetweenRecords g) where
+  pub route-from-account : accounted (uncut g) .answer ≡ Accepted
+      → (accountRoute engines (joinedBytes g .account) orders (length speeds) ≡ trainRoute (engines ++ uncut g) orders (length speeds))
+      × (accountSpeeds engines (joinedBytes g .account) orders speeds ≡ trainSpeeds (engines ++ uncut g) orders speeds)
+  unfolding accountRefusals trainRefusals
+  route-from-account done =
+      let a = judge.answer-from-account engines g e working cut done (sectionRefusals orders (length speeds)) in
+      let f = judge.facts-from-account engines g e working cut done in
+      (ap₂ (λ (x : Answer) (h : Facts). routeBy x (grantedFor h orders)) a f, ap₂ (λ (x : Answer) (h : Facts). written x (speedsFor h orders) speeds) a f)
+
+  -- from the records alone: each good, none a working engine, at most 200; then no call is refused
+  pub route-from-portions : GoodPortion (uncut g)
+      → NoneRefused g
+      × (joinedBytes g .account ≡ accountOf (vehicles (uncut g)))
+      × (accountRoute engines (joinedBytes g .account) orders (length speeds) ≡ trainRoute (engines ++ uncut g) orders (length speeds))
+      × (accountSpeeds engines (joinedBytes g .account) orders speeds ≡ trainSpeeds (engines ++ uncut g) orders speeds)
+  route-from-portions good =
+      let d = any-grouping-done g cut good in
+      let s = route-from-account (ap (λ (r : Accounted). r .answer) (portion-done-exactly (uncut g) .1 good)) in
+      (d .0, ap (λ (r : Accounted). r .account) (d .1), s .0, s .1)

@@ -1,0 +1,5 @@
+pub mod Routes
+pub mod Shown
+pub mod Single
+pub mod Unique
+pub mod Demands
