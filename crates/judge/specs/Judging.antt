@@ -1,4 +1,4 @@
--- Words in which judging's functions promise something to each other and to a route: what is lent beside a train as one answer, a train as it goes to be judged, a train parted.
+-- Words in which judging's functions promise something to each other and to a route.
 use Prim.Native.Nat.{ℕ, _*_, _%_, _≤_}
 use mathlib.Core.Path.{_≡_}
 use mathlib.Core.Bool.{true, false, not, cond}

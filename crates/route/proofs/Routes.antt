@@ -2,13 +2,13 @@
 use Prim.Native.Nat.{ℕ, _≤_}
 use native.Mathlib.Omega.{arith}
 use mathlib.Core.Path.{_≡_, refl, sym, ap, ap₂, _∙_}
-use mathlib.Core.Bool.{Bool, true, false, not, _||_, cond}
+use mathlib.Core.Bool.{Bool, true, false, not, cond}
 use mathlib.Core.List.{List, _++_}
 use borrow.Author.Tests.{ltb-false, not-false}
 use lib.Dec.{ltb}
 use lib.ListN.{length, drop}
 use Rattle.record.specs.Words.{_is_, _above_, all, Every, firstOf}
-use Rattle.record.specs.Records.{recordCount, recordsOf, isWhole}
+use Rattle.record.specs.Records.{recordCount, recordsOf}
 use Rattle.record.specs.Vehicles.{vehicles}
 use Rattle.record.proofs.Lists.{lacking}
 use Rattle.record.proofs.Records.{length-records}
@@ -25,7 +25,7 @@ use Rattle.judge.specs.declared.Answer.the-variants.{Done, BadOrder, ShortSheet
 use Rattle.judge.specs.declared.Judged.{Judged}
 use Rattle.judge.specs.declared.Judged.the-variants.{Ready, Refused}
 use Rattle.judge.proofs.Demands.{done-only, train-judged, train-lent, account-judged, account-lent}
-use Rattle.route.specs.Answers.{sectionRefusals, trainRefusals, accountRefusals, grantedFor, speedsFor, routeBy, trainAnswer, trainRoute, trainSpeeds, accountAnswer, accountRoute, accountSpeeds}
+use Rattle.route.specs.Answers.{noRoute, sectionRefusals, trainRefusals, accountRefusals, grantedFor, speedsFor, routeBy, trainAnswer, trainRoute, trainSpeeds, accountAnswer, accountRoute, accountSpeeds}
 use Rattle.route.specs.Giving.{routeIn, speedsIn}
 
 pub sections-refusing : (orders : List ℕ) (room : ℕ) → Refusing (sectionRefusals orders room)
@@ -38,16 +38,13 @@ some-bad orders place found =
 
 -- ---- test by test
 module _ (orders : List ℕ) (room : ℕ) where
-  abbrev noRoute : Bool
-  noRoute = not (isWhole orders) || recordCount orders is 0 || recordCount orders above 64
-
   abbrev someBad : Bool
   someBad = not (all (goodSection (askedIn orders)) (recordsOf orders))
 
-  pub refused-whole : noRoute ≡ true → BadOrder 0 ≡ firstOf Done (sectionRefusals orders room)
+  pub refused-whole : noRoute orders ≡ true → BadOrder 0 ≡ firstOf Done (sectionRefusals orders room)
   refused-whole e = rw e
 
-  module _ (route : noRoute ≡ false) where
+  module _ (route : noRoute orders ≡ false) where
     pub refused-section : (place : ℕ) → place ≡ leadingGood orders → someBad ≡ true → BadOrder place ≡ firstOf Done (sectionRefusals orders room)
     refused-section place found e = rw (route, e) (ap BadOrder found)
 

@@ -1,11 +1,11 @@
 -- A route of one section: what a sheet of its order gives. Assumes nothing.
-use Prim.Native.Nat.{ℕ, zero, suc, _/_, _%_, _≤_, _<_}
+use Prim.Native.Nat.{ℕ, zero, suc, _/_, _≤_, _<_}
 use native.Mathlib.Omega.{arith}
 use mathlib.Core.Path.{_≡_, refl, sym, ap, _∙_}
-use mathlib.Core.Bool.{Bool, true, false, not, _&&_, _||_, cond}
+use mathlib.Core.Bool.{Bool, true, false, not, _&&_, cond}
 use mathlib.Core.List.{List, [], _∷_, map}
 use borrow.Author.Tests.{le-ltb}
-use lib.Dec.{eqb, ltb}
+use lib.Dec.{ltb}
 use lib.ListN.{length, getD}
 use lib.Seq.{take-all}
 use Rattle.record.specs.Words.{_is_, all, leading, Every, firstOf}
@@ -27,7 +27,7 @@ use Rattle.judge.specs.Answers.{orderRefusals}
 use Rattle.judge.specs.declared.Answer.{Answer}
 use Rattle.judge.specs.declared.Answer.the-variants.{Done, BadOrder, ShortSheet}
 use Rattle.judge.proofs.Demands.{done-when-none-applies}
-use Rattle.route.specs.Answers.{sectionRefusals, grantedFor, speedsFor}
+use Rattle.route.specs.Answers.{noRoute, sectionRefusals, grantedFor, speedsFor}
 use Rattle.route.proofs.Routes.{sections-good}
 
 module _ (order : List ℕ) (whole : length order ≡ 24) where
@@ -60,6 +60,9 @@ module _ (order : List ℕ) (whole : length order ≡ 24) where
       ∙ first-asks-itself order
       ∙ ap (λ (rs : List (List ℕ)). goodOrder (getD rs 0 [])) one-record
 
+  one-route : noRoute order ≡ false
+  one-route = rw whole
+
   -- the three tests, of so many records
   abbrev tests : Bool → List (List ℕ) → Bool → Answer
   tests x rs y = cond x (BadOrder 0) (cond (not (all same rs)) (BadOrder (leading same rs)) (cond y ShortSheet Done))
@@ -75,10 +78,9 @@ module _ (order : List ℕ) (whole : length order ≡ 24) where
   -- 4 with place 0 exactly when a sheet's order is refused so, where both have room
   pub single-answer : (room sheet : ℕ) → 1 ≤ room → sheetLength ≤ sheet → firstOf Done (sectionRefusals order room) ≡ firstOf Done (orderRefusals order sheet)
   single-answer room sheet enough fits =
-      let some = ap (λ (n : ℕ). not (eqb (n % 24) 0) || eqb (n / 24) 0 || ltb 64 (n / 24)) whole in
       let room-for-one = ap (λ (n : ℕ). ltb room (n / 24)) whole ∙ le-ltb room 1 enough in
       _∙_ {b = tests false (order ∷ []) false}
-      (λ i. tests (some i) (one-record i) (room-for-one i))
+      (λ i. tests (one-route i) (one-record i) (room-for-one i))
       (by-the-order ∙ ap (λ (b : Bool). cond (not (goodOrder order)) (BadOrder 0) (cond b ShortSheet Done)) (sym (le-ltb sheet sheetLength fits)))
 
 -- ---- one of many sections, alone

@@ -1,6 +1,6 @@
 -- Request One: what a route is answered, the category that it gives and the bytes that it leaves.
 use Prim.Native.Nat.{ℕ}
-use mathlib.Core.Bool.{not, _||_, cond}
+use mathlib.Core.Bool.{Bool, not, _||_, cond}
 use mathlib.Core.List.{List, [], _∷_}
 use lib.ListN.{length}
 use Rattle.record.specs.Words.{_is_, _above_, all, Case, firstOf}
@@ -17,11 +17,15 @@ use Rattle.judge.specs.declared.Answer.{Answer}
 use Rattle.judge.specs.declared.Answer.the-variants.{Done, BadOrder, ShortSheet}
 use Rattle.route.specs.declared.Route.{Route}
 
+-- orders that are not whole records, no section or more than 64
+abbrev pub noRoute : List ℕ → Bool
+noRoute orders = not (isWhole orders) || recordCount orders is 0 || recordCount orders above 64
+
 -- of the orders and the bytes lent
 abbrev pub sectionRefusals : List ℕ → ℕ → List (Case Answer)
 sectionRefusals orders room =
-    -- 4, with place 0: orders that are not whole records, no section or more than 64
-    refusal (BadOrder 0) (not (isWhole orders) || recordCount orders is 0 || recordCount orders above 64)
+    -- 4, with place 0
+    refusal (BadOrder 0) (noRoute orders)
     -- 4: the first section with a field out of range or an asked category other than the first section's, counted from 0
     ∷ refusal (BadOrder (leadingGood orders)) (not (all (goodSection (askedIn orders)) (recordsOf orders)))
     -- 5: fewer bytes lent than sections

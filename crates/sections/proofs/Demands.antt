@@ -1,7 +1,7 @@
 -- Request One, "A sheet for the whole route": the theorems, over the definitions of specs/, of any rule book. Assumes nothing.
 use Prim.Native.Nat.{ℕ, _≤_, _<_}
 use native.Mathlib.Omega.{arith}
-use mathlib.Core.Path.{_≡_, refl, sym, ap, _∙_}
+use mathlib.Core.Path.{_≡_, sym, ap, _∙_}
 use mathlib.Core.Bool.{true, false}
 use mathlib.Core.List.{List, [], _∷_, _++_}
 use mathlib.Core.Logic.{_⊎_, ⊎-elim}
@@ -22,10 +22,11 @@ use Rattle.rules.specs.declared.category.Category.{Category}
 use Rattle.rules.specs.declared.grant.Best.{Best}
 use Rattle.rules.proofs.Demands as rules
 use Rattle.rules.proofs.Demands.{category-among}
-use Rattle.sections.specs.Routes.{askedOn, slowestOf, brokenOn, routeOffer, grantedOn, sectionSpeed, speedsOn, Somewhere, MayBeGrantedOn, BreaksOn, OfferedOn}
+use Rattle.sections.specs.Routes.{askedOn, slowestOf, brokenOn, grantedOn, sectionSpeed, speedsOn, Somewhere, MayBeGrantedOn, BreaksOn, OfferedOn}
 use Rattle.sections.specs.Gathering.{offersOn}
 use Rattle.sections.specs.Sections.{sectionsOf, askedIn, goodSection, leadingGood, laidOver}
 use Rattle.sections.proofs.Asks as asks
+use Rattle.sections.proofs.Gathers as gathers
 use Rattle.sections.proofs.Places as places
 use Rattle.sections.proofs.Speeds as speeds
 use Rattle.sections.proofs.Routes as routes
@@ -149,5 +150,4 @@ first-asks-itself orders = asks.first-itself (recordsOf orders)
 -- ---- how it is worked out
 -- what is granted is the best of the rules and speeds that are worked out for each category
 pub granted-of-offers : (f : Facts) (os : List Order) → bestOf (askedOn os) (offersFrom 1 (offersOn crossBorder f os .broken) (offersOn crossBorder f os .speeds)) ≡ grantedOn crossBorder f os
-unfolding offersOn grantedOn routeOffer crossBorder
-granted-of-offers f os = refl
+granted-of-offers = gathers.granted-by

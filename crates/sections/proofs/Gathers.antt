@@ -14,9 +14,8 @@ use Rattle.rules.specs.CrossBorder.{crossBorder}
 use Rattle.rules.specs.Grants.{bestOf, offersFrom, decisionOf}
 use Rattle.rules.specs.declared.grant.Decision.{Decision}
 use Rattle.sections.specs.Routes.{askedOn, slowestOf, brokenOn, routeOffer, grantedOn}
-use Rattle.sections.specs.Gathering.{offersOn}
+use Rattle.sections.specs.Gathering.{offersOn, inFront}
 use Rattle.sections.specs.Sections.{sectionsOf}
-use Rattle.sections.specs.Gathering.{inFront}
 use Rattle.sections.specs.declared.grant.Offers.{Offers}
 use Rattle.sections.proofs.Places.{length-sections, section-read, sections-from}
 

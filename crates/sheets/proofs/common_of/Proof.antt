@@ -1,13 +1,16 @@
 -- `sheets::common_of` meets its contract: the test is the definition's. Assumes nothing.
+use native.Mathlib.Omega.{arith}
+use mathlib.Core.Path.{sym, ap}
+use mathlib.Core.Bool.{Bool, cond}
 use borrow.Author.Tests.{le-leb, lt-leb}
 use Rattle.sheets.proofs.common_of.Statement.{statement}
 use Rattle.sheets.proofs.common_of.Tie as tie
 
 returns : tie.Need-returns
-returns c = rw (le-leb _ _ (c .if1 .taken))
+returns c = ap (λ (b : Bool). cond b (c .before .args .first) 0) (sym (le-leb (c .before .args .first) 23 (omega (arith, c .if1 .taken))))
 
 returns-2 : tie.Need-returns-2
-returns-2 c = rw (lt-leb _ _ (c .if1 .left))
+returns-2 c = ap (λ (b : Bool). cond b (c .before .args .first) 0) (sym (lt-leb (c .before .args .first) 23 (omega (arith, c .if1 .left))))
 
 pub common-of-spec : {M : Type 1} → statement M
 common-of-spec = tie.close (tie.spec returns returns-2)

@@ -1,7 +1,6 @@
 -- `sheets::margin_bytes` meets its contract: the bytes of the whole tonnes of the margin. Assumes nothing.
 use mir.Facts.{toZ-ofZ}
-use borrow.Author.Needs.{sfits-of}
-use borrow.Author.Needs.{needs}
+use borrow.Author.Needs.{sfits-of, needs}
 use Rattle.sheets.proofs.margin_bytes.Statement.{statement}
 use Rattle.sheets.proofs.margin_bytes.Tie as tie
 

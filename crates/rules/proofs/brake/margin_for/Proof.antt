@@ -1,7 +1,6 @@
 -- `rules::brake::margin_for` meets its contract: the margin of the parts of Q, k and p. Assumes nothing.
 use mir.Facts.{toZ-ofZ}
-use borrow.Author.Needs.{sfits-of}
-use borrow.Author.Needs.{needs}
+use borrow.Author.Needs.{sfits-of, needs}
 use Rattle.rules.specs.Brakes.{marginFor}
 use Rattle.rules.proofs.brake.margin_for.Statement.{statement}
 use Rattle.rules.proofs.brake.margin_for.Tie as tie

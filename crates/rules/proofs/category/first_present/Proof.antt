@@ -37,7 +37,7 @@ shared-slice-read-result c = omega arith
 returns : tie.Need-returns Inv-loop μ-loop
 returns c =
     let l = c .before .before .before .before in
-    sym (l .loop .inv ∙ step _ (l .loop .i) (omega arith) ∙ simp (ne-eqb _ _ (c .before .if1 .taken)))
+    sym (l .loop .inv ∙ step _ (l .loop .i) (omega arith) ∙ simp (ne-eqb _ 0 (c .before .if1 .taken)))
 
 add-i : tie.Need-add-i Inv-loop μ-loop
 add-i c = omega arith
