@@ -34,7 +34,7 @@
  *
  * A vehicle, 24 bytes
  *     bytes  field                                              range
- *     0-7    vehicle number                                     1 to 999,999,999,999
+ *     0-7    vehicle number                                     1 to 999,999,999,999, and closes
  *     8-9    mass                                               1 to 2,500
  *     10-11  braked mass in V (German P)                        0 to 2,500
  *     12-13  braked mass in M (German G)                        0 to 2,500
@@ -47,6 +47,9 @@
  *     21     Matrossow brake, or no graduated release           0 or 1
  *     22     D load                                             0 or 1
  *     23     always 0                                           0
+ *
+ *   A number closes when its twelve digits, leading zeros counted, sum to a multiple of ten, those in odd places from the
+ *   left being doubled first and their digits added: 218124712173 sums to 40. One that does not is out of range.
  *
  * An order, 24 bytes
  *     0-4    the line's limits for the columns ME120, ME100, MA100, MA90, MA80: 0 to 200, 0 where the column is missing

@@ -22,6 +22,9 @@ struct vehicle {
 
 static const char *const category[] = {"none", "ME120/P120", "ME100/P100", "MA100/P100", "MA100/G100", "MA90/G90"};
 
+/* Vehicle numbers, the engine's first: the eleven least whose twelfth digit closes the sum, as the header says. */
+static const uint64_t numbers[VEHICLES] = {18, 26, 34, 42, 59, 67, 75, 83, 91, 109, 117};
+
 /* Document 01 prints case A's line; case B's follows from its margin of -2 t, rule 47 and 43.0 t a wagon. */
 static const char case_a[] = "0 0 010164000000002020004400004d000070170000f41a000070170000a4060000";
 static const char case_b[] = "0 0 010264002f0000202000feffff4d000070170000f41a0000b4140000a4060000";
@@ -33,6 +36,8 @@ static const uint8_t limits[LINES][5] = {{120, 100, 100, 100, 100}, {80, 90, 100
  * speeds. Each section for itself would be granted another. */
 static const uint8_t route_category = 2, route_speeds[LINES] = {100, 90, 90};
 static const uint8_t alone_category[LINES] = {1, 3, 1}, alone_speed[LINES] = {120, 100, 100};
+
+static const char out_of_range[] = ": a field out of range; the place is the first such record, counted from 0";
 
 static void expect(bool holds, const char *what) {
     if (!holds) {
@@ -66,11 +71,12 @@ static void put_vehicle(uint8_t *record, struct vehicle v) {
 }
 
 static void put_train(uint8_t *train, uint16_t wagon_braked_v) {
-    put_vehicle(train, (struct vehicle){.number = 1, .mass = 900, .braked_v = 1000, .braked_m = 800, .length = 200,
-                                        .axles = 4, .kind = WORKING_ENGINE, .setting = SET_V, .speed = 140});
+    put_vehicle(train, (struct vehicle){.number = numbers[0], .mass = 900, .braked_v = 1000, .braked_m = 800,
+                                        .length = 200, .axles = 4, .kind = WORKING_ENGINE, .setting = SET_V,
+                                        .speed = 140});
     for (size_t i = 1; i < VEHICLES; i++)
         put_vehicle(train + i * PRSKAVON_VEHICLE,
-                    (struct vehicle){.number = i + 1, .mass = 600, .braked_v = wagon_braked_v, .braked_m = 500,
+                    (struct vehicle){.number = numbers[i], .mass = 600, .braked_v = wagon_braked_v, .braked_m = 500,
                                      .length = 150, .axles = 4, .kind = WAGON, .setting = SET_V, .speed = 120});
 }
 
@@ -231,10 +237,12 @@ int main(void) {
     routes(train, order, account);
 
     memset(sheet, 0xaa, sizeof sheet); /* a mark that no refused call may touch */
+    printf("The last wagon's number mistyped, 177 for 117\n");
+    put(train_b + 10 * PRSKAVON_VEHICLE, 177, 8);
+    refused(prskavon_sheet_of_train(train_b, TRAIN, order, sizeof order, sheet, sizeof sheet), 3, 10, out_of_range, sheet);
     printf("A fourth vehicle with 25 axles\n");
     train[3 * PRSKAVON_VEHICLE + 16] = 25;
-    refused(prskavon_sheet_of_train(train, TRAIN, order, sizeof order, sheet, sizeof sheet), 3, 3,
-            ": a field out of range; the place is the first such record, counted from 0", sheet);
+    refused(prskavon_sheet_of_train(train, TRAIN, order, sizeof order, sheet, sizeof sheet), 3, 3, out_of_range, sheet);
     printf("An account with byte 127 set to 1\n");
     account[127] = 1;
     refused(prskavon_sheet_of_account(train, ENGINE, account, sizeof account, order, sizeof order, sheet, sizeof sheet),

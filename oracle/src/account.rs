@@ -257,7 +257,7 @@ mod tests {
 
     fn wagon(setting: u8) -> Record {
         let vehicle = Vehicle {
-            number: 7,
+            number: 75,
             mass: 100,
             braked_v: 60,
             braked_m: 50,
@@ -269,7 +269,7 @@ mod tests {
             speed: 100,
             matrossow: 0,
             d_load: 0,
-            closing: 0,
+            zero: 0,
         };
         vehicle.write()
     }

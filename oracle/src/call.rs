@@ -71,7 +71,7 @@ impl Side for Model {
     }
 }
 
-#[derive(Clone, Copy, Debug, PartialEq, Eq)]
+#[derive(Clone, Copy, Debug, PartialEq, Eq, PartialOrd, Ord)]
 pub enum Function {
     SheetOfTrain,
     AccountOf,

@@ -6,6 +6,7 @@ use crate::account::Account;
 use crate::boundaries::Boundaries;
 use crate::call::{Call, Function, Inputs, FUNCTIONS};
 use crate::facts::Facts;
+use crate::numbers::{Met, Numbers, Seat};
 use crate::offered::Offered;
 use crate::order::Order;
 use crate::precedence::{applying, excluded, refusals, shown, SECTION};
@@ -33,6 +34,7 @@ pub struct Coverage {
     sheets: [Sheets; 2],
     offered: Offered,
     routes: [Routes; 2],
+    vehicle_numbers: Numbers,
 }
 
 /// What a run has to meet.
@@ -45,7 +47,7 @@ pub enum Scope {
 }
 
 impl Scope {
-    fn functions(self) -> &'static [Function] {
+    pub fn functions(self) -> &'static [Function] {
         match self {
             Scope::Functions => &FUNCTIONS,
             Scope::Lines => &[Function::SheetOfTrain, Function::RouteOfTrain],
@@ -72,6 +74,7 @@ impl Default for Coverage {
             sheets: [none.clone(), none],
             offered: Offered::default(),
             routes: [Routes::default(), Routes::default()],
+            vehicle_numbers: Numbers::default(),
         }
     }
 }
@@ -82,6 +85,7 @@ impl Coverage {
         self.numbers[function as usize][(answer % 256) as usize] += 1;
         let all = applying(call);
         self.offered.note(call, &all);
+        self.vehicle_numbers.note(call, &all);
         for &first in &all {
             for &second in &all {
                 self.pairs[function as usize][usize::from(first)][usize::from(second)] += 1;
@@ -96,6 +100,11 @@ impl Coverage {
         if let Some(routes) = self.routes_of(function) {
             routes.note(call, &all, || facts(call));
         }
+    }
+
+    /// A number that was tried at a seat and got the answer that is due.
+    pub fn tried(&mut self, seat: Seat, met: Met) {
+        self.vehicle_numbers.tried(seat, met);
     }
 
     fn routes_of(&mut self, function: Function) -> Option<&mut Routes> {
@@ -130,6 +139,7 @@ impl Coverage {
         for (routes, more) in self.routes.iter_mut().zip(&other.routes) {
             routes.add(more);
         }
+        self.vehicle_numbers.add(&other.vehicle_numbers);
     }
 
     /// What could have occurred and did not.
@@ -148,6 +158,7 @@ impl Coverage {
         }
         self.sheets[0].missing("trains", scope, &mut missing);
         missing.extend(self.routes[0].missing(Function::RouteOfTrain, scope));
+        missing.extend(self.vehicle_numbers.missing(scope));
         if scope == Scope::Functions {
             self.sheets[1].missing("accounts", scope, &mut missing);
             missing.extend(self.offered.missing());
@@ -192,6 +203,7 @@ impl Coverage {
             text += &self.offered.table();
             text += &self.routes[1].table(Function::RouteOfAccount, scope);
         }
+        text += &self.vehicle_numbers.table(scope);
         text + &impossible(scope)
     }
 }

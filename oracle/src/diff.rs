@@ -10,9 +10,11 @@ use crate::gen::draft::bytes;
 use crate::gen::mixture::{
     cut, engines_call, join_call, portion_call, speed_call, train_call, Cut,
 };
+use crate::gen::numbers::{case_number, seated, two_engines};
 use crate::gen::routes::{account_route_call, route_call, some_sections, swept_journey, written};
 use crate::gen::trains::Size;
 use crate::line::hex;
+use crate::numbers::{attempts, seats};
 use crate::order::ORDER;
 use crate::random::Random;
 use crate::routes::{swept, Met};
@@ -20,7 +22,7 @@ use crate::routes::{swept, Met};
 /// Differences that are written out; the others are only counted.
 const SHOWN: usize = 5;
 
-pub const KINDS: [&str; 9] = [
+pub const KINDS: [&str; 10] = [
     "whole trains",
     "portions",
     "joins",
@@ -30,6 +32,7 @@ pub const KINDS: [&str; 9] = [
     "routes of whole trains",
     "routes from an account",
     "routes of cut lists",
+    "vehicle numbers",
 ];
 
 #[derive(Clone, Default)]
@@ -47,7 +50,7 @@ impl Report {
     }
 
     pub fn routes(&self) -> u64 {
-        self.kinds[6..].iter().sum()
+        self.kinds[6..9].iter().sum()
     }
 
     pub fn add(&mut self, other: Report) {
@@ -65,10 +68,11 @@ impl Report {
 /// Every so manieth route is one of those that are swept.
 const SWEPT_EACH: u64 = 4;
 
-/// Sets the seed of routes apart from that of trains.
+/// Set the seeds of routes and of numbers apart from that of trains.
 const ROUTES: u64 = 0x0064_0064_0064_0064;
+const NUMBERS: u64 = 0x0012_0012_0012_0012;
 
-/// A run over cases by their index; joins and routes have seeds of their own.
+/// A run over cases by their index; joins, routes and numbers have seeds of their own.
 pub struct Run<'a, S: Side> {
     pub library: &'a S,
     pub seed: u64,
@@ -81,6 +85,7 @@ impl<S: Side> Run<'_, S> {
         trains: impl Iterator<Item = u64>,
         joins: impl Iterator<Item = u64>,
         routes: impl Iterator<Item = u64>,
+        numbers: impl Iterator<Item = u64>,
     ) -> Report {
         let mut report = Report::default();
         for index in trains {
@@ -104,6 +109,13 @@ impl<S: Side> Run<'_, S> {
             let kind = case.route_case(&mut random, &swept, index);
             let wrong = case.wrong;
             self.close(&mut report, kind, "route", index, wrong);
+        }
+        for index in numbers {
+            let mut random = Random::for_case(self.seed ^ NUMBERS, index);
+            let mut case = Case::new(self.library, &mut report);
+            case.number_case(&mut random, index);
+            let wrong = case.wrong;
+            self.close(&mut report, 9, "number", index, wrong);
         }
         report
     }
@@ -179,6 +191,25 @@ impl<'a, S: Side> Case<'a, S> {
         }
     }
 
+    /// A number that closes with every slip of one digit or of two neighbours, and the ends of the range, at one seat.
+    fn number_case(&mut self, random: &mut Random, index: u64) {
+        let seats = seats();
+        let seat = seats[index as usize % seats.len()];
+        let mut draft = two_engines(random);
+        for attempt in attempts(case_number(random, index)) {
+            seat.part.vehicle(&mut draft).number = attempt.number;
+            let call = seated(seat.function, &draft);
+            let (answer, _) = self.compare(&call);
+            if seat.is_due(&draft, attempt.good, answer) {
+                self.report.coverage.tried(seat, attempt.met);
+            } else {
+                let (number, met) = (attempt.number, attempt.met);
+                let text = format!("  {seat:?}: not the answer for {number}, {met:?}\n");
+                self.wrong.push(text + &call.describe());
+            }
+        }
+    }
+
     /// A route; one of a single section is held against the sheet too.
     fn route(&mut self, kind: usize, call: &Call) -> usize {
         let (answer, speeds) = self.check(call);
@@ -195,12 +226,18 @@ impl<'a, S: Side> Case<'a, S> {
         kind
     }
 
-    /// Runs both sides, and hands back what the model gave.
+    /// Compares both sides, and counts what the model met and gave.
     fn check(&mut self, call: &Call) -> (u64, [u8; BUFFER]) {
+        let (model, expected) = self.compare(call);
+        self.report.coverage.note(call, model, &expected);
+        (model, expected)
+    }
+
+    /// Runs both sides, and hands back what the model gave.
+    fn compare(&mut self, call: &Call) -> (u64, [u8; BUFFER]) {
         let (model, expected) = call.outcome(&Model);
         let (library, found) = call.outcome(self.library);
         self.report.calls += 1;
-        self.report.coverage.note(call, model, &expected);
         if (model, &expected) != (library, &found) {
             self.wrong.push(format!(
                 "  {}\n{}  model   {} {}\n  library {} {}\n",
@@ -359,10 +396,12 @@ fn shown(answer: u64) -> String {
 #[cfg(test)]
 mod tests {
     use super::*;
+    use crate::call::{Function, FUNCTIONS};
     use crate::category::{Category, CATEGORIES};
     use crate::facts::Facts;
+    use crate::gen::numbers::{LEAST, PAST};
     use crate::route::{sections, speed_on, speeds};
-    use crate::vehicle::is_working;
+    use crate::vehicle::{digits, is_number, is_working, Vehicle};
 
     /// The model with one slip of the page's list, or with a write where none is allowed.
     #[derive(Clone, Copy, PartialEq)]
@@ -383,6 +422,12 @@ mod tests {
         RouteFiveBeforeFour,
         RouteWritesBehind,
         RouteWritesWhenRefused,
+        NumberUnchecked(Function),
+        NumberDoublesEven,
+        NumberAddsNoDigits,
+        NumberWithoutZeros,
+        NumberByItsTail,
+        NumberTakesZero,
     }
 
     impl Slip {
@@ -400,6 +445,50 @@ mod tests {
                 _ => {}
             }
             taken
+        }
+
+        /// Whether one with this slip takes a vehicle number.
+        fn takes(self, function: Function, number: u64) -> bool {
+            let in_range = (1..PAST).contains(&number);
+            let closes = |digits: &[u64], doubled: usize, ten: u64| {
+                let weighed = (1..)
+                    .zip(digits)
+                    .map(|(place, digit)| match place % 2 == doubled {
+                        true => 2 * digit / ten + 2 * digit % ten,
+                        false => *digit,
+                    });
+                in_range && weighed.sum::<u64>() % 10 == 0
+            };
+            let digits = digits(number);
+            let zeros = digits.iter().take_while(|&&digit| digit == 0).count();
+            match self {
+                Slip::NumberUnchecked(one) if one == function => in_range,
+                Slip::NumberDoublesEven => closes(&digits, 0, 10),
+                // A double is below a hundred, so it stays as it is.
+                Slip::NumberAddsNoDigits => closes(&digits, 1, 100),
+                Slip::NumberWithoutZeros => closes(&digits[zeros..], 1, 10),
+                Slip::NumberByItsTail => is_number(number % PAST),
+                Slip::NumberTakesZero => number == 0 || is_number(number),
+                _ => is_number(number),
+            }
+        }
+
+        /// The vehicles as one with this slip judges their numbers.
+        fn numbered(self, function: Function, vehicles: &[u8]) -> Vec<u8> {
+            let mut numbered = vehicles.to_vec();
+            for record in numbered.as_chunks_mut().0 {
+                let mut vehicle = Vehicle::read(record);
+                match (
+                    self.takes(function, vehicle.number),
+                    is_number(vehicle.number),
+                ) {
+                    (true, false) => vehicle.number = LEAST,
+                    (false, true) => vehicle.number = 0,
+                    _ => {}
+                }
+                *record = vehicle.write();
+            }
+            numbered
         }
 
         /// A done route as one with this slip chooses its category.
@@ -435,7 +524,8 @@ mod tests {
 
     impl Side for Slip {
         fn sheet_of_train(&self, vehicles: &[u8], order: &[u8], room: &mut [u8]) -> u64 {
-            let answer = Model.sheet_of_train(vehicles, order, room);
+            let vehicles = self.numbered(Function::SheetOfTrain, vehicles);
+            let answer = Model.sheet_of_train(&vehicles, order, room);
             match self {
                 Slip::MarginTowardZero if answer == 0 && room[10..13] == [255; 3] => {
                     room[10..13].fill(0);
@@ -448,7 +538,8 @@ mod tests {
         }
 
         fn account_of(&self, portion: &[u8], room: &mut [u8]) -> u64 {
-            let answer = Model.account_of(portion, room);
+            let portion = self.numbered(Function::AccountOf, portion);
+            let answer = Model.account_of(&portion, room);
             if *self == Slip::WritesBehind && answer == 0 && room.len() > ACCOUNT {
                 room[ACCOUNT] = 0;
             }
@@ -471,14 +562,18 @@ mod tests {
             order: &[u8],
             room: &mut [u8],
         ) -> u64 {
-            Model.sheet_of_account(engines, &self.taken(hauled), order, room)
+            let engines = self.numbered(Function::SheetOfAccount, engines);
+            Model.sheet_of_account(&engines, &self.taken(hauled), order, room)
         }
 
         fn holds_the_speed(&self, front: &[u8], back: &[u8], room: &mut [u8]) -> usize {
-            Model.holds_the_speed(front, back, room)
+            let [front, back] =
+                [front, back].map(|portion| self.numbered(Function::HoldsTheSpeed, portion));
+            Model.holds_the_speed(&front, &back, room)
         }
 
         fn route_of_train(&self, vehicles: &[u8], orders: &[u8], room: &mut [u8]) -> u64 {
+            let vehicles = &self.numbered(Function::RouteOfTrain, vehicles);
             let answer = Model.route_of_train(vehicles, orders, room);
             let (number, place, _) = parts(answer);
             let sections = orders.len() / ORDER;
@@ -506,17 +601,24 @@ mod tests {
             orders: &[u8],
             room: &mut [u8],
         ) -> u64 {
-            Model.route_of_account(engines, &self.taken(hauled), orders, room)
+            let engines = self.numbered(Function::RouteOfAccount, engines);
+            Model.route_of_account(&engines, &self.taken(hauled), orders, room)
         }
     }
 
     fn differences(slip: Slip) -> u64 {
+        differences_in(slip, 3_000, 44)
+    }
+
+    /// Over so many trains, joins and routes each, and so many vehicle numbers; 22 of these have every seat.
+    fn differences_in(slip: Slip, cases: u64, numbers: u64) -> u64 {
         let run = Run {
             library: &slip,
             seed: 3,
             done: &AtomicU64::new(0),
         };
-        run.cases(0..3_000, 0..3_000, 0..3_000).differences
+        let report = run.cases(0..cases, 0..cases, 0..cases, 0..numbers);
+        report.differences
     }
 
     #[test]
@@ -545,5 +647,19 @@ mod tests {
         assert!(differences(Slip::RouteFiveBeforeFour) > 0);
         assert!(differences(Slip::RouteWritesBehind) > 0);
         assert!(differences(Slip::RouteWritesWhenRefused) > 0);
+    }
+
+    #[test]
+    fn slips_of_numbers_are_found() {
+        let found = |slip: Slip| differences_in(slip, 0, 22) > 0;
+        assert!(found(Slip::NumberDoublesEven));
+        assert!(found(Slip::NumberAddsNoDigits));
+        assert!(found(Slip::NumberWithoutZeros));
+        assert!(found(Slip::NumberByItsTail));
+        assert!(found(Slip::NumberTakesZero));
+        for function in FUNCTIONS.into_iter().filter(|&one| one != Function::Join) {
+            let name = function.name();
+            assert!(found(Slip::NumberUnchecked(function)), "{name}");
+        }
     }
 }

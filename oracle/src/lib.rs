@@ -11,6 +11,7 @@ pub mod diff;
 pub mod facts;
 pub mod gen;
 pub mod line;
+pub mod numbers;
 pub mod offered;
 pub mod order;
 pub mod precedence;

@@ -94,22 +94,30 @@ mod tests {
     fn the_place_is_the_first_bad_record() {
         let mut draft = case_a();
         draft.hauled[6].axles = 25;
-        draft.hauled[3].closing = 1;
+        draft.hauled[3].zero = 1;
         assert_eq!(line(&draft.input()), "3 4 -\n");
     }
 
-    /// A file of the program ROUTE, as it is stored.
+    /// An input or a line as it is stored.
     fn stored(file: &str) -> Vec<u8> {
-        let folder = Path::new(env!("CARGO_MANIFEST_DIR")).join("../crates/route_sheet");
-        fs::read(folder.join(file)).expect("the program ROUTE has its input and its line")
+        let folder = Path::new(env!("CARGO_MANIFEST_DIR")).join("../crates");
+        fs::read(folder.join(file)).expect("SHEET and ROUTE have their inputs and their lines")
+    }
+
+    /// The line that document 01 prints.
+    #[test]
+    fn case_a_gives_the_stored_line() {
+        let printed = "0 0 010164000000002020004400004d000070170000f41a000070170000a4060000\n";
+        assert_eq!(stored("sheet/stdin"), case_a().input());
+        assert_eq!(stored("sheet/stdout"), printed.as_bytes());
     }
 
     /// Category 2 is the first of two whose slowest section has 90 km/h: 100, 90 and 90, so 64, 5a and 5a.
     #[test]
     fn the_worked_route_gives_the_stored_line() {
         let line = "0 0 2 645a5a\n";
-        assert_eq!(stored("stdin"), worked_route());
-        assert_eq!(stored("stdout"), line.as_bytes());
+        assert_eq!(stored("route_sheet/stdin"), worked_route());
+        assert_eq!(stored("route_sheet/stdout"), line.as_bytes());
         assert_eq!(route_line(&worked_route()), line);
     }
 

@@ -4,6 +4,7 @@ use lib.ListN.{replicate}
 use Rattle.record.specs.Words.{all}
 use Rattle.record.specs.Numbers.{littleEndian}
 use Rattle.record.specs.Records.{records}
+use Rattle.record.specs.Closing.{closes}
 use Rattle.record.specs.Vehicles.{good, vehicle}
 use Rattle.margin.specs.Margin.{fourfold, marginOf}
 use Rattle.order.specs.Orders.{goodOrder, orderOf}
@@ -20,5 +21,5 @@ use Rattle.judge.specs.Answers.{numberOf, placeOf, trainRefusals, trainA
 
 -- number 0, place 0, and the 32 bytes that document 01 prints
 pub case-a : (numberOf (trainAnswer trainA orderA sheetLength) ≡ 0) × (placeOf (trainAnswer trainA orderA sheetLength) ≡ 0) × (trainSheet trainA orderA (replicate sheetLength 0) ≡ sheetA)
-unfolding trainRefusals sheetFor all good goodOrder figuresOf decisionOf grantedOf offerOf factsOf orderOf vehicle records littleEndian crossBorder brokenBy marginFor brakedOf termsOf marginOf fourfold lineSpeed speedOf
+unfolding trainRefusals sheetFor all good closes goodOrder figuresOf decisionOf grantedOf offerOf factsOf orderOf vehicle records littleEndian crossBorder brokenBy marginFor brakedOf termsOf marginOf fourfold lineSpeed speedOf
 case-a = (refl, refl, refl)

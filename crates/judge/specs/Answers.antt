@@ -66,9 +66,13 @@ orderTests isGood room = refusal (BadOrder 0) (not isGood) ∷ refusal ShortShee
 abbrev pub orderRefusals : List ℕ → ℕ → List (Case Answer)
 orderRefusals order room = orderTests (goodOrder order) room
 
--- of a whole train: 1, 2, 3 before what is lent beside it, and 11, 12, 13, 14 behind
+-- of a whole train: 1, 2
+abbrev pub countRefusals : List ℕ → List (Case Answer)
+countRefusals bs = notWhole bs ∷ refusal TooMany (recordCount bs above 200) ∷ []
+
+-- 1, 2, 3 before what is lent beside it, and 11, 12, 13, 14 behind
 abbrev pub recordRefusals : List ℕ → List (Case Answer)
-recordRefusals bs = notWhole bs ∷ refusal TooMany (recordCount bs above 200) ∷ badField bs ∷ []
+recordRefusals bs = countRefusals bs ++ badField bs ∷ []
 
 abbrev pub shape : Bool → Bool → ℕ → ℕ → List (Case Answer)
 shape notWorking behind engines hauled =

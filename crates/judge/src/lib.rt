@@ -2,8 +2,9 @@
 ghost use mathlib.Core.Path.{_≡_};
 ghost use mathlib.Core.Bool.{true, not};
 ghost use lib.ListN.{length};
-ghost use Rattle.record.specs.Words.{_is_, firstOf};
-ghost use Rattle.record.specs.Vehicles.{vehicles};
+ghost use Rattle.record.specs.Words.{_is_, all, firstOf};
+ghost use Rattle.record.specs.Records.{recordsOf};
+ghost use Rattle.record.specs.Vehicles.{good, vehicles};
 ghost use Rattle.account.specs.Answers.{numberOf as portionNumber};
 ghost use Rattle.order.specs.Orders.{orderRead};
 ghost use Rattle.judge.specs.Answers.{isDone, trainShape, trainAnswer, trainSheet, accountAnswer, accountSheet};
@@ -51,8 +52,9 @@ pub enum Judged {
     Refused(Answer),
 }
 
-// A train of good records parted: its answer, how many working engines stand in front, and the account of the rest.
+// A train parted behind its working engines: whether neither part was refused, what it is answered where its records are good, and the parts.
 struct Parted {
+    good: bool,
     answer: Answer,
     working: usize,
     hauled: Account,
@@ -72,20 +74,22 @@ fn is_refused(answer: account::Answer) -> bool
     }
 }
 
-// 11, 12, 13, 14 of a train, and its parts.
+// A train's parts, and 11, 12, 13, 14 where its records are good. The account reads each hauled record, so what is hauled is tested once.
 fn part_train(train: &[u8]) -> Parted
-    requires { ⌜ GoodRecords (now train) ⌝ }
-    ensures { λ r. ⌜ r .answer ≡ firstOf Answer.Done (trainShape (vehicles (now (train .entry)))) ⌝ }
-    ensures { λ r. ⌜ (isDone (r .answer) ≡ true → Parts (now (train .entry)) (r .working) (r .hauled)) ⌝ }
+    ensures { λ r. ⌜ (r .good ≡ true → all good (recordsOf (now (train .entry))) ≡ true) ⌝ }
+    ensures { λ r. ⌜ (GoodRecords (now (train .entry)) → r .answer ≡ firstOf Answer.Done (trainShape (vehicles (now (train .entry))))) ⌝ }
+    ensures { λ r. ⌜ (GoodRecords (now (train .entry)) → isDone (r .answer) ≡ true → Parts (now (train .entry)) (r .working) (r .hauled)) ⌝ }
 {
     let working = working_count(train);
     let split = SIZE * working;
+    let engines_good = refusal::is_done(refusal::field_refusal(&train[..split]));
     let part = account_of(&train[split..]);
     let hauled = part.account;
     let answer = part.answer;
     let refused = is_refused(answer);
     let late = refusal::shape_refusal(working == 0, refused, working, hauled.count);
     Parted {
+        good: engines_good & !refused,
         answer: late,
         working: working,
         hauled: hauled,
@@ -96,14 +100,18 @@ fn part_train(train: &[u8]) -> Parted
 pub fn train_facts(vehicles: &[u8], lent: Answer) -> Judged
     ensures { λ r. ⌜ r ≡ trainJudged (now (vehicles .entry)) lent ⌝ }
 {
-    let records = refusal::record_refusal(vehicles);
-    if !refusal::is_done(records) {
-        return Judged::Refused(records);
+    let counts = refusal::count_refusal(vehicles);
+    if !refusal::is_done(counts) {
+        return Judged::Refused(counts);
+    }
+    let parts = part_train(vehicles);
+    let fields = refusal::field_refusal_unless(parts.good, vehicles);
+    if !refusal::is_done(fields) {
+        return Judged::Refused(fields);
     }
     if !refusal::is_done(lent) {
         return Judged::Refused(lent);
     }
-    let parts = part_train(vehicles);
     let late = parts.answer;
     if !refusal::is_done(late) {
         return Judged::Refused(late);

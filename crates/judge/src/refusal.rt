@@ -1,8 +1,11 @@
 // The refusals, group by group, in document 01's order.
 ghost use mathlib.Core.Path.{_≡_};
+ghost use mathlib.Core.Bool.{true};
 ghost use mathlib.Core.List.{[], _∷_};
-ghost use Rattle.record.specs.Words.{firstOf};
-ghost use Rattle.judge.specs.Answers.{isDone, badField, recordRefusals, orderTests, engineRefusals, shape};
+ghost use Rattle.record.specs.Words.{all, firstOf};
+ghost use Rattle.record.specs.Records.{recordsOf};
+ghost use Rattle.record.specs.Vehicles.{good};
+ghost use Rattle.judge.specs.Answers.{isDone, badField, countRefusals, orderTests, engineRefusals, shape};
 use crate::Answer;
 use account::Account;
 use account::within_ceilings;
@@ -30,7 +33,7 @@ pub(crate) fn is_done(answer: Answer) -> bool
 }
 
 // 3.
-fn field_refusal(records: &[u8]) -> Answer
+pub(crate) fn field_refusal(records: &[u8]) -> Answer
     ensures { λ r. ⌜ r ≡ firstOf Answer.Done (badField (now (records .entry)) ∷ []) ⌝ }
 {
     match first_bad(records) {
@@ -39,9 +42,20 @@ fn field_refusal(records: &[u8]) -> Answer
     }
 }
 
-// 1, 2, 3 of a whole train.
-pub(crate) fn record_refusal(vehicles: &[u8]) -> Answer
-    ensures { λ r. ⌜ r ≡ firstOf Answer.Done (recordRefusals (now (vehicles .entry))) ⌝ }
+// 3, looked for unless the records are known to be good.
+pub(crate) fn field_refusal_unless(known: bool, records: &[u8]) -> Answer
+    requires { ⌜ (known ≡ true → all good (recordsOf (now records)) ≡ true) ⌝ }
+    ensures { λ r. ⌜ r ≡ firstOf Answer.Done (badField (now (records .entry)) ∷ []) ⌝ }
+{
+    if known {
+        return Answer::Done;
+    }
+    field_refusal(records)
+}
+
+// 1, 2 of a whole train.
+pub(crate) fn count_refusal(vehicles: &[u8]) -> Answer
+    ensures { λ r. ⌜ r ≡ firstOf Answer.Done (countRefusals (now (vehicles .entry))) ⌝ }
 {
     if (vehicles.len() == 0) | (vehicles.len() % SIZE != 0) {
         return Answer::NotWhole;
@@ -49,7 +63,7 @@ pub(crate) fn record_refusal(vehicles: &[u8]) -> Answer
     if 200 < vehicles.len() / SIZE {
         return Answer::TooMany;
     }
-    field_refusal(vehicles)
+    Answer::Done
 }
 
 // 1, 7, 2, 3 of engines with an account.

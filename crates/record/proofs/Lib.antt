@@ -3,6 +3,8 @@ pub mod Lists
 pub mod Figures
 pub mod Numbers
 pub mod Records
+pub mod Sums
+pub mod Digits
 pub mod Vehicles
 pub mod Unique
 pub mod Demands

@@ -13,7 +13,7 @@ use lib.Seq.{take-suc, take-all, getD-take, getD-drop}
 use Rattle.record.specs.Words.{all, leading}
 use Rattle.record.specs.Numbers.{littleEndian}
 use Rattle.record.specs.Records.{records, recordsOf, hasByte}
-use Rattle.record.specs.Vehicles.{Field, field, fields, nth, value, fieldGood, good, vehicle, reading, firstBad, vehicles, isHauledEngine, isWorking, isIsolated}
+use Rattle.record.specs.Vehicles.{Field, field, fields, nth, value, fieldGood, numberCloses, good, vehicle, reading, firstBad, vehicles, isHauledEngine, isWorking, isIsolated}
 use Rattle.record.specs.declared.vehicle.Vehicle.{Vehicle}
 use Rattle.record.specs.declared.vehicle.Reading.the-variants.{Good, Bad}
 use Rattle.record.specs.declared.vehicle.Found.{Found}
@@ -62,24 +62,42 @@ pub fields-more : (r : List ℕ) (f : ℕ) → f < 13 → all (fieldGood r) (tak
     → all (fieldGood r) (take (f + 1) fields) ≡ true
 fields-more r f h t e = rw (add-one, take-suc fields f (field 0 0 0 0) h) (all-snoc (fieldGood r) (take f fields) (nth f) t e)
 
-pub fields-good : (r : List ℕ) (f : ℕ) → length r ≡ 24 → f ≡ 13 → all (fieldGood r) (take f fields) ≡ true → good r ≡ true
+pub fields-good : (r : List ℕ) (f : ℕ) → length r ≡ 24 → f ≡ 13 → all (fieldGood r) (take f fields) ≡ true → numberCloses r ≡ true → good r ≡ true
 unfolding good
-fields-good r f l z t = rw (eq-eqb (length r) 24 l) (rw z at t)
+fields-good r f l z t n = rw (eq-eqb (length r) 24 l, rw z at t) n
 
 pub fields-bad : (r : List ℕ) (f : ℕ) → f < 13 → fieldGood r (nth f) ≡ false → good r ≡ false
 unfolding good
 fields-bad r f h e = rw (all-not (fieldGood r) fields f (field 0 0 0 0) h e) (and-false (eqb (length r) 24))
 
+-- a number that does not close
+pub number-bad : (r : List ℕ) → numberCloses r ≡ false → good r ≡ false
+unfolding good
+number-bad r e = rw (e, and-false (all (fieldGood r) fields)) (and-false (eqb (length r) 24))
+
 pub length-bad : (r : List ℕ) → (length r ≡ 24 → ⊥) → good r ≡ false
 unfolding good
 length-bad r h = rw (ne-eqb (length r) 24 h)
 
--- what a good record's field is at most
-pub at-most : (r : List ℕ) → good r ≡ true → (f : ℕ) → f < 13 → value r (nth f) ≤ nth f .high
+module _ (r : List ℕ) (f : ℕ) where
+  -- what a field in its range is at most
+  good-at-most : fieldGood r (nth f) ≡ true → value r (nth f) ≤ nth f .high
+  good-at-most t = leb-true (value r (nth f)) (nth f .high) (both (leb (nth f .low) (value r (nth f))) (leb (value r (nth f)) (nth f .high)) t .1)
+
+  -- where all fields are, and so of a good record
+  pub fields-at-most : (k : ℕ) → k ≡ 13 → all (fieldGood r) (take k fields) ≡ true → f < 13 → value r (nth f) ≤ nth f .high
+  fields-at-most k z t h = good-at-most (all-at (fieldGood r) fields f (field 0 0 0 0) h (rw z at t))
+
+-- what a good record's fields and number pass
+good-passes : (r : List ℕ) → good r ≡ true → (all (fieldGood r) fields ≡ true) × (numberCloses r ≡ true)
 unfolding good
-at-most r g f h =
-    let t = all-at (fieldGood r) fields f (field 0 0 0 0) h (both (eqb (length r) 24) (all (fieldGood r) fields) g .1) in
-    leb-true (value r (nth f)) (nth f .high) (both (leb (nth f .low) (value r (nth f))) (leb (value r (nth f)) (nth f .high)) t .1)
+good-passes r g = both (all (fieldGood r) fields) (numberCloses r) (both (eqb (length r) 24) (all (fieldGood r) fields && numberCloses r) g .1)
+
+pub good-closes : (r : List ℕ) → good r ≡ true → numberCloses r ≡ true
+good-closes r g = good-passes r g .1
+
+pub at-most : (r : List ℕ) → good r ≡ true → (f : ℕ) → f < 13 → value r (nth f) ≤ nth f .high
+at-most r g f h = fields-at-most r f 13 refl (good-passes r g .0) h
 
 -- a turn of a loop over the records; one that does not pass; the end: one law for every test
 module _ (p : List ℕ → Bool) (bs : List ℕ) where

@@ -6,6 +6,7 @@ use lib.ListN.{length, getD, take, drop}
 use Rattle.record.specs.Words.{_is_, _atMost_, all, leading}
 use Rattle.record.specs.Numbers.{littleEndian}
 use Rattle.record.specs.Records.{recordsOf}
+use Rattle.record.specs.Closing.{closes}
 use Rattle.record.specs.declared.field.Field.{Field as Row}
 use Rattle.record.specs.declared.vehicle.Vehicle.{Vehicle}
 use Rattle.record.specs.declared.vehicle.Reading.{Reading}
@@ -71,9 +72,13 @@ inRange d x = d .low atMost x && x atMost d .high
 abbrev pub fieldGood : List ℕ → Field → Bool
 fieldGood r d = inRange d (value r d)
 
--- 24 bytes with every field in its range
+-- the vehicle number of a record closes (request Two)
+abbrev pub numberCloses : List ℕ → Bool
+numberCloses r = closes (value r (nth 0))
+
+-- 24 bytes with every field in its range; a number that does not close is out of range
 unfoldable pub good : List ℕ → Bool
-good r = length r is 24 && all (fieldGood r) fields
+good r = length r is 24 && (all (fieldGood r) fields && numberCloses r)
 
 unfoldable pub vehicle : List ℕ → Vehicle
 vehicle r =

@@ -5,6 +5,7 @@ ghost use lib.ListN.{length};
 ghost use Rattle.record.specs.Records.{recordsOf, hasByte};
 ghost use Rattle.record.specs.Vehicles.{nth, value, vehicle, vehicles, reading, firstBad, isHauledEngine, isWorking, isIsolated};
 ghost use Rattle.record.specs.Words.{leading};
+use crate::closing::closes;
 use crate::field::FIELDS;
 use crate::field::is_in_range;
 use crate::field::value_of;
@@ -62,6 +63,10 @@ pub fn first_bad(file: &[u8]) -> Found
                 break 'records i;
             }
             f += 1;
+        }
+        // Field 0, the vehicle number, is out of range also where it does not close.
+        if !closes(value_of(bytes, 0)) {
+            break 'records i;
         }
         i += 1;
     };

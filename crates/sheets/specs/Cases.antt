@@ -28,25 +28,25 @@ recordA number mass v m length kind speed =
     fourBytes number (fourBytes 0 (twoBytes mass (twoBytes v (twoBytes m (twoBytes length (4 ∷ kind ∷ 2 ∷ 1 ∷ speed ∷ 0 ∷ 0 ∷ 0 ∷ []))))))
 
 abbrev engineA : List ℕ
-engineA = recordA 1 900 1000 800 200 2 140
+engineA = recordA 18 900 1000 800 200 2 140
 
 abbrev wagonBytes : ℕ → List ℕ
 wagonBytes number = recordA number 600 500 500 150 0 120
 
--- an engine and ten wagons, numbers 1 to 11
+-- an engine and ten wagons; for 1 to 11 the eleven least numbers that close (request Two)
 abbrev pub trainA : List ℕ
 trainA =
     engineA
-    ++ wagonBytes 2
-    ++ wagonBytes 3
-    ++ wagonBytes 4
-    ++ wagonBytes 5
-    ++ wagonBytes 6
-    ++ wagonBytes 7
-    ++ wagonBytes 8
-    ++ wagonBytes 9
-    ++ wagonBytes 10
-    ++ wagonBytes 11
+    ++ wagonBytes 26
+    ++ wagonBytes 34
+    ++ wagonBytes 42
+    ++ wagonBytes 59
+    ++ wagonBytes 67
+    ++ wagonBytes 75
+    ++ wagonBytes 83
+    ++ wagonBytes 91
+    ++ wagonBytes 109
+    ++ wagonBytes 117
 
 abbrev pub sheetA : List ℕ
 sheetA =
@@ -61,11 +61,11 @@ sheetA =
 abbrev asking : ℕ → Order
 asking asked = record { limits = replicate 5 100; asked = asked; german = 0; coupling = 100000; admissible = 100000 }
 
--- 4 axles, joined, other flags 0; the number, here 1 for each, is read by no rule and stands on no sheet
+-- 4 axles, joined, other flags 0; the number, here 18 for each, is read by no rule and stands on no sheet
 abbrev vehicle : ℕ → ℕ → ℕ → ℕ → ℕ → ℕ → ℕ → Vehicle
 vehicle kind mass v m length setting speed =
     record {
-      number = 1;
+      number = 18;
       mass = mass;
       vmass = v;
       mmass = m;

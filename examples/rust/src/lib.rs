@@ -2,6 +2,9 @@
 //!
 //! The library takes any bytes and always returns, so no function here asks anything of its caller.
 //! An empty slice has a dangling pointer that is not null, which is all the header asks of it.
+//!
+//! A vehicle's number is 1 to 999,999,999,999 and closes: its twelve digits, leading zeros counted, sum to a multiple of
+//! ten, those in odd places from the left being doubled first and their digits added. One that does not is out of range.
 
 use std::error::Error;
 use std::fmt;

@@ -30,6 +30,9 @@ const CATEGORY: [&str; 6] = [
     "MA90/G90",
 ];
 
+// Vehicle numbers, the engine's first: the eleven least whose twelfth digit closes the sum, as the header says.
+const NUMBERS: [u64; VEHICLES] = [18, 26, 34, 42, 59, 67, 75, 83, 91, 109, 117];
+
 // Document 01 prints case A's line; case B's follows from its margin of -2 t, rule 47 and 43.0 t a wagon.
 const CASE_A: &str = "0 0 010164000000002020004400004d000070170000f41a000070170000a4060000";
 const CASE_B: &str = "0 0 010264002f0000202000feffff4d000070170000f41a0000b4140000a4060000";
@@ -93,7 +96,7 @@ fn train(wagon_braked_v: u16) -> [u8; TRAIN] {
     let mut train = [0; TRAIN];
     let (engine, wagons) = train.split_at_mut(VEHICLE);
     engine.copy_from_slice(&record(Vehicle {
-        number: 1,
+        number: NUMBERS[0],
         mass: 900,
         braked_v: 1000,
         braked_m: 800,
@@ -103,7 +106,7 @@ fn train(wagon_braked_v: u16) -> [u8; TRAIN] {
         setting: SET_V,
         speed: 140,
     }));
-    for (wagon, number) in wagons.chunks_exact_mut(VEHICLE).zip(2..) {
+    for (wagon, &number) in wagons.chunks_exact_mut(VEHICLE).zip(&NUMBERS[1..]) {
         wagon.copy_from_slice(&record(Vehicle {
             number,
             mass: 600,
@@ -265,7 +268,7 @@ fn routes(train: &[u8], order: &[u8; ORDER], account: &Account) -> Checked<()> {
 }
 
 fn tour() -> Checked<()> {
-    let (mut train_a, train_b, order) = (train(500), train(430), order());
+    let (mut train_a, mut train_b, order) = (train(500), train(430), order());
 
     println!("The whole train, its wagons braked with 50.0 t each (case A)");
     let whole = whole_train(&train_a, &order, CASE_A)?;
@@ -278,6 +281,11 @@ fn tour() -> Checked<()> {
     routes(&train_a, &order, &account)?;
 
     let mut sheet = [0xaa; SHEET]; // a mark that no refused call may touch
+    println!("The last wagon's number mistyped, 177 for 117");
+    train_b[10 * VEHICLE..][..8].copy_from_slice(&177_u64.to_le_bytes());
+    let (number, place) = (3, 10);
+    let answer = write_sheet_of_train(&train_b, &order, &mut sheet);
+    refused(answer, Refusal { number, place }, &sheet)?;
     println!("A fourth vehicle with 25 axles");
     train_a[3 * VEHICLE + 16] = 25;
     let (number, place) = (3, 3);

@@ -10,7 +10,7 @@ use oracle::coverage::Scope;
 use oracle::diff::{Report, Run, KINDS};
 use oracle::speed;
 
-const USAGE: &str = "usage: compare diff SEED TRAINS JOINS ROUTES
+const USAGE: &str = "usage: compare diff SEED TRAINS JOINS ROUTES NUMBERS
        compare soak N [SEED]
        compare speed
        compare instructions library|model train|account|join|judge|refusal|route|sheets SIZE REPEAT";
@@ -195,12 +195,12 @@ fn main() -> ExitCode {
     let arguments: Vec<&str> = arguments.iter().map(String::as_str).collect();
     let number = |text: &str| text.parse::<u64>().ok();
     let outcome = match arguments[..] {
-        ["diff", seed, trains, joins, routes] => match [seed, trains, joins, routes].map(number) {
-            [Some(seed), Some(trains), Some(joins), Some(routes)] => {
-                Some(diff(seed, trains, joins, routes))
-            }
-            _ => None,
-        },
+        ["diff", seed, trains, joins, routes, numbers] => {
+            let counts = [trains, joins, routes, numbers].map(number);
+            number(seed)
+                .zip(all(counts))
+                .map(|(seed, counts)| diff(seed, counts))
+        }
         ["soak", cases] => number(cases).map(|cases| soak(cases, 1)),
         ["soak", cases, seed] => match (number(cases), number(seed)) {
             (Some(cases), Some(seed)) => Some(soak(cases, seed)),
@@ -222,19 +222,27 @@ fn main() -> ExitCode {
     })
 }
 
-fn diff(seed: u64, trains: u64, joins: u64, routes: u64) -> ExitCode {
+/// All of them, if each is a number.
+fn all(counts: [Option<u64>; 4]) -> Option<[u64; 4]> {
+    let [trains, joins, routes, numbers] = counts;
+    Some([trains?, joins?, routes?, numbers?])
+}
+
+fn diff(seed: u64, [trains, joins, routes, numbers]: [u64; 4]) -> ExitCode {
     let run = Run {
         library: &Library,
         seed,
         done: &AtomicU64::new(0),
     };
-    finish(&run.cases(0..trains, 0..joins, 0..routes))
+    finish(&run.cases(0..trains, 0..joins, 0..routes, 0..numbers))
 }
 
-/// Trains, joins and routes, a third each, on two threads that take every other index.
+/// One vehicle number in a hundred, then trains, joins and routes, a third each, on two threads that take every other index.
 fn soak(cases: u64, seed: u64) -> ExitCode {
-    let (trains, joins) = (cases / 3, cases / 3);
-    let routes = cases - trains - joins;
+    let numbers = cases / 100;
+    let trains = (cases - numbers) / 3;
+    let joins = trains;
+    let routes = cases - numbers - trains - joins;
     let done = AtomicU64::new(0);
     let half = |first: usize| {
         let run = Run {
@@ -243,7 +251,12 @@ fn soak(cases: u64, seed: u64) -> ExitCode {
             done: &done,
         };
         let every_other = |end: u64| (0..end).skip(first).step_by(2);
-        run.cases(every_other(trains), every_other(joins), every_other(routes))
+        run.cases(
+            every_other(trains),
+            every_other(joins),
+            every_other(routes),
+            every_other(numbers),
+        )
     };
     let report = thread::scope(|scope| {
         let workers = [0, 1].map(|first| scope.spawn(move || half(first)));

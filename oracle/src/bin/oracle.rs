@@ -135,7 +135,8 @@ fn counts(seed: u64, cases: u64) -> io::Result<ExitCode> {
         seed,
         done: &AtomicU64::new(0),
     };
-    let report = run.cases(0..cases, 0..cases, 0..cases);
+    // A number brings some 150 calls, so a fortieth of them is enough.
+    let report = run.cases(0..cases, 0..cases, 0..cases, 0..cases / 40);
     Ok(finish(&report.coverage, Scope::Functions))
 }
 

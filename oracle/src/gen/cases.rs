@@ -1,6 +1,7 @@
 //! Cases A to H of document 01, each with its neighbours.
 
 use super::draft::{aim, Draft, BRAKED_V, LENGTH, MASS};
+use super::numbers::LEAST;
 use super::routes::written;
 use crate::order::Order;
 use crate::vehicle::{Vehicle, ISOLATED, SET_TO_M, SET_TO_V, WAGON, WORKING_ENGINE};
@@ -70,7 +71,7 @@ pub fn worked_route() -> Vec<u8> {
 /// Case A with another V mass on its ten wagons; B has 430.
 fn case_a_with(wagon_v: u16) -> Draft {
     let engine = Vehicle {
-        number: 1,
+        number: LEAST,
         mass: 900,
         braked_v: 1_000,
         braked_m: 800,
@@ -82,7 +83,7 @@ fn case_a_with(wagon_v: u16) -> Draft {
         speed: 140,
         matrossow: 0,
         d_load: 0,
-        closing: 0,
+        zero: 0,
     };
     let wagon = Vehicle {
         mass: 600,

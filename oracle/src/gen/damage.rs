@@ -1,6 +1,7 @@
 //! Trains and orders that are to be refused, one refusal or several at once.
 
 use super::draft::Draft;
+use super::numbers::refused;
 use crate::call::{Call, Inputs};
 use crate::random::Random;
 use crate::vehicle::{HAULED_ENGINE, VEHICLE, WAGON, WORKING_ENGINE};
@@ -22,8 +23,8 @@ const fn span(at: usize, width: usize, low: u64, high: u64) -> Span {
     }
 }
 
-pub const VEHICLE_FIELDS: [Span; 13] = [
-    span(0, 8, 1, 999_999_999_999),
+/// The fields of a vehicle but its number, which slips are made in.
+pub const VEHICLE_FIELDS: [Span; 12] = [
     span(8, 2, 1, 2_500),
     span(10, 2, 0, 2_500),
     span(12, 2, 0, 2_500),
@@ -169,8 +170,17 @@ pub fn damage_records(random: &mut Random, vehicles: &mut [u8]) {
             _ => random.below(count),
         };
         let record = &mut vehicles[place * VEHICLE..][..VEHICLE];
-        VEHICLE_FIELDS[random.below(VEHICLE_FIELDS.len())].write_bad(random, record);
+        match random.below(2) {
+            0 => slip_number(random, record, refused),
+            _ => VEHICLE_FIELDS[random.below(VEHICLE_FIELDS.len())].write_bad(random, record),
+        }
     }
+}
+
+/// Puts in the place of a record's number what a slip makes of it.
+pub fn slip_number(random: &mut Random, record: &mut [u8], slip: fn(&mut Random, u64) -> u64) {
+    let number = record.first_chunk_mut().expect("a record has its number");
+    *number = slip(random, u64::from_le_bytes(*number)).to_le_bytes();
 }
 
 /// Refusal 4: a length of its own, or a field out of range.

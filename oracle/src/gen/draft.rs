@@ -1,5 +1,6 @@
 //! A train being drawn up: vehicles and order with their fields still open to change.
 
+use super::numbers::closed;
 use crate::facts::Facts;
 use crate::order::Order;
 use crate::vehicle::{Record, Vehicle};
@@ -27,10 +28,10 @@ impl Draft {
         Facts::of_train(&records(&self.working), &records(&self.hauled))
     }
 
-    /// Numbers the vehicles from the head.
+    /// Gives the vehicles, from the head, the least numbers that close.
     pub fn renumber(&mut self) {
-        for (vehicle, number) in self.working.iter_mut().chain(&mut self.hauled).zip(1..) {
-            vehicle.number = number;
+        for (vehicle, stem) in self.working.iter_mut().chain(&mut self.hauled).zip(1..) {
+            vehicle.number = closed(stem);
         }
     }
 }

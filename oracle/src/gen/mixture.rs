@@ -5,9 +5,10 @@ use super::accounts::{
 };
 use super::damage::{
     cut_short, damage_order, damage_records, flip_bytes, random_bytes, refused_train, sheet_room,
-    ORDER_FIELDS, REFUSALS, VEHICLE_FIELDS,
+    slip_number, ORDER_FIELDS, REFUSALS, VEHICLE_FIELDS,
 };
 use super::draft::{bytes, Draft};
+use super::numbers::slipped;
 use super::trains::{any_engine, any_order, plain_train, train, Size};
 use crate::account::Account;
 use crate::call::{Call, Function, Inputs};
@@ -69,7 +70,11 @@ fn one_field(random: &mut Random, vehicles: &mut [u8]) {
         return;
     }
     let place = random.below(records.len());
-    VEHICLE_FIELDS[random.below(VEHICLE_FIELDS.len())].write_edge(random, &mut records[place]);
+    let record = &mut records[place];
+    match random.below(3) {
+        0 => slip_number(random, record, slipped),
+        _ => VEHICLE_FIELDS[random.below(VEHICLE_FIELDS.len())].write_edge(random, record),
+    }
 }
 
 /// 199 to 202 records.

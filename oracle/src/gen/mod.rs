@@ -7,6 +7,7 @@ pub mod draft;
 pub mod edges;
 pub mod margins;
 pub mod mixture;
+pub mod numbers;
 pub mod routes;
 pub mod trains;
 pub mod vectors;

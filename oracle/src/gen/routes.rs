@@ -7,6 +7,7 @@ use super::damage::{
 };
 use super::draft::{aim, bytes, Draft, BRAKED_V, MASS};
 use super::mixture::{account_beside, call, engines_and_hauled, engines_apart, some_refusals};
+use super::numbers::number;
 use super::trains::{any_order, train, Size};
 use crate::call::{Call, Function, Inputs};
 use crate::category::CATEGORIES;
@@ -78,12 +79,14 @@ pub fn written(sections: &[Order]) -> Vec<u8> {
 fn light_train(random: &mut Random) -> Draft {
     let mut draft = case_a();
     let engine = &mut draft.working[0];
+    engine.number = number(random);
     engine.setting = SET_TO_M;
     engine.mass = random.between(800, 900) as u16;
     engine.braked_m = random.between(600, 800) as u16;
     engine.speed = random.pick(&[90, 100, 120, 140]);
     draft.hauled.truncate(1 + random.below(3));
     for wagon in &mut draft.hauled {
+        wagon.number = number(random);
         wagon.axles = random.between(2, 4) as u8;
         wagon.speed = random.pick(&[90, 100, 120, 120, 160]);
     }

@@ -2,6 +2,7 @@
 
 use super::draft::{aim, Draft, MASS};
 use super::edges;
+use super::numbers::number;
 use crate::order::Order;
 use crate::random::Random;
 use crate::vehicle::{
@@ -51,7 +52,7 @@ pub fn plain_train(random: &mut Random, size: Size) -> Draft {
         hauled: hauled(random, style, count),
         order,
     };
-    if random.percent(90) {
+    if random.percent(10) {
         draft.renumber();
     }
     draft
@@ -92,7 +93,7 @@ fn engine(random: &mut Random, style: Style) -> Vehicle {
         _ => random.below(3) as u8,
     };
     Vehicle {
-        number: random.between(1, 999_999_999_999) as u64,
+        number: number(random),
         mass: random.between(700, 1_300) as u16,
         braked_v: random.between(700, 1_400) as u16,
         braked_m: random.between(600, 1_100) as u16,
@@ -104,7 +105,7 @@ fn engine(random: &mut Random, style: Style) -> Vehicle {
         speed: random.pick(&[100, 120, 120, 140, 160, 200]),
         matrossow: u8::from(random.percent(10)),
         d_load: u8::from(random.percent(10)),
-        closing: 0,
+        zero: 0,
     }
 }
 
@@ -178,7 +179,7 @@ fn wagon(random: &mut Random, kind: u8, setting: u8, count: usize) -> Vehicle {
     let length = (6_800 / count as i64).min(150);
     let axles = (240 / count as i64).clamp(1, 4);
     Vehicle {
-        number: random.between(1, 999_999_999_999) as u64,
+        number: number(random),
         mass: 1,
         braked_v: 0,
         braked_m: 0,
@@ -190,13 +191,13 @@ fn wagon(random: &mut Random, kind: u8, setting: u8, count: usize) -> Vehicle {
         speed: random.pick(&[90, 100, 100, 120, 120, 120, 140, 160]),
         matrossow: u8::from(kind == HAULED_ENGINE && random.percent(30)),
         d_load: u8::from(random.percent(5)),
-        closing: 0,
+        zero: 0,
     }
 }
 
 fn wild(random: &mut Random, kind: u8) -> Vehicle {
     Vehicle {
-        number: random.between(1, 999_999_999_999) as u64,
+        number: number(random),
         mass: random.between(1, 2_500) as u16,
         braked_v: random.between(0, 2_500) as u16,
         braked_m: random.between(0, 2_500) as u16,
@@ -208,7 +209,7 @@ fn wild(random: &mut Random, kind: u8) -> Vehicle {
         speed: random.between(1, 200) as u8,
         matrossow: u8::from(random.percent(10)),
         d_load: u8::from(random.percent(50)),
-        closing: 0,
+        zero: 0,
     }
 }
 

@@ -1,10 +1,13 @@
-//! Inputs of SHEET and ROUTE for files of cases: the page's first, then random ones, most of them short.
+//! Inputs of SHEET and ROUTE for files of cases: the page's first, slipped vehicle numbers, then random ones, most of them short.
 
 use super::cases::{case_a, cases, worked_route};
+use super::draft::Draft;
 use super::mixture::train_call;
+use super::numbers::{closed, seated, two_engines};
 use super::routes::{route_call, swept_journey, written};
 use super::trains::Size;
-use crate::call::{Call, Inputs};
+use crate::call::{Call, Function, Inputs};
+use crate::numbers::{attempts, Met, PARTS};
 use crate::order::ORDER;
 use crate::random::Random;
 use crate::routes::swept_few;
@@ -15,10 +18,37 @@ const MOST_FRAME: usize = 5_000;
 pub fn inputs(seed: u64, count: usize) -> Vec<Vec<u8>> {
     let mut inputs: Vec<Vec<u8>> = cases().iter().map(|case| case.draft.input()).collect();
     inputs.extend(odd_lengths());
+    inputs.extend(numbered(seed).iter().map(Draft::input));
     let random = inputs.len() as u64..count as u64;
     inputs.extend(random.map(|index| random_input(&mut Random::for_case(seed, index))));
     inputs.truncate(count);
     inputs
+}
+
+/// Stems of the numbers that are tried at a train's five parts: that of 21 81 2471 217-3, the least, and three with 0 and 9 beside
+/// each other.
+const STEMS: [u64; 5] = [21_812_471_217, 90_180_909_109, 37_809, 1, 9_099_999_999];
+
+/// Trains with one number slipped: another digit in every place, every exchange, every end of the range.
+fn numbered(seed: u64) -> Vec<Draft> {
+    let mut drafts = vec![];
+    for (part, stem) in PARTS.into_iter().zip(STEMS) {
+        let mut draft = two_engines(&mut Random::for_case(seed, stem));
+        let attempts = attempts(closed(stem)).into_iter();
+        for attempt in attempts.filter(|attempt| is_in_file(attempt.met)) {
+            part.vehicle(&mut draft).number = attempt.number;
+            drafts.push(draft.clone());
+        }
+    }
+    drafts
+}
+
+/// Of the nine other digits in a place a file of cases has one.
+fn is_in_file(met: Met) -> bool {
+    match met {
+        Met::Changed(place, from, to) => to == (from + 1 + place as u64 % 9) % 10,
+        _ => true,
+    }
 }
 
 /// Shorter than an order, at the end of it, and about the 4,848 bytes that are read.
@@ -54,13 +84,16 @@ fn random_input(random: &mut Random) -> Vec<u8> {
     input
 }
 
-/// Inputs of ROUTE: the worked one, odd ones, what is swept, then random ones up to the count.
+/// Inputs of ROUTE: the worked one, odd ones, what is swept, slipped numbers, then random ones up to the count.
 pub fn route_inputs(seed: u64, count: usize) -> Vec<Vec<u8>> {
     let mut inputs = vec![worked_route()];
     inputs.extend(odd_routes());
     for (index, met) in (0..).zip(swept_few()) {
         let mut random = Random::for_case(!seed, index);
         inputs.extend(route_input(swept_journey(&mut random, met).of_train(0)));
+    }
+    for draft in numbered(!seed) {
+        inputs.extend(route_input(seated(Function::RouteOfTrain, &draft)));
     }
     let mut index = 1_000_000;
     while inputs.len() < count {

@@ -1,22 +1,35 @@
 -- `record::vehicle::first_bad` meets its contract: the records before `i` are good, and so are the fields before `f` of the record at `i`. Assumes nothing.
-use Prim.Native.Nat.{ℕ, _≤_, _-_}
+use Prim.Native.Nat.{ℕ, _≤_, _<_, _+_, _*_, _-_}
 use mathlib.Core.Path.{_≡_, refl, sym, ap, subst, _∙_}
-use mathlib.Core.Bool.{true, false}
+use mathlib.Core.Bool.{Bool, true, false}
 use mathlib.Core.List.{List}
 use mathlib.Core.Logic.{⊎-elim}
 use native.Mathlib.Omega.{arith}
 use borrow.Author.Needs.{needs}
 use borrow.Author.Tests.{not-true, not-false}
 use denote.Ref.{now}
-use lib.ListN.{length, take}
+use lib.ListN.{length, take, drop}
 use Rattle.record.specs.Words.{all}
 use Rattle.record.specs.Records.{records, recordCount}
-use Rattle.record.specs.Vehicles.{fields, fieldGood, good}
+use Rattle.record.specs.Closing.{closes}
+use Rattle.record.specs.Vehicles.{nth, value, fields, fieldGood, numberCloses, good, firstBad}
 use Rattle.record.specs.declared.vehicle.Found.the-variants.{At}
 use Rattle.record.proofs.Records.{part-record, record-length}
-use Rattle.record.proofs.Vehicles.{fields-more, fields-good, fields-bad, records-more, bad-first, bad-none}
+use Rattle.record.proofs.Vehicles.{fields-more, fields-good, fields-bad, fields-at-most, number-bad, records-more, bad-first, bad-none}
 use Rattle.record.proofs.vehicle.first_bad.Statement.{statement}
 use Rattle.record.proofs.vehicle.first_bad.Tie as tie
+
+-- the part of a file that is lent for a record
+abbrev lent : List ℕ → ℕ → List ℕ
+lent s i = take (24 * i + 24 - 24 * i) (drop (24 * i) s)
+
+-- a bad one behind good ones is the first
+found : (n i : ℕ) (s : List ℕ) → i < n → all good (records i s) ≡ true → good (lent s i) ≡ false → At i ≡ firstBad (records n s)
+found n i s h before bad = sym (bad-first n i s h before (subst (λ (x : List ℕ). good x ≡ false) (part-record s i) bad))
+
+-- what the code was told of a record's number
+closing-told : (r : List ℕ) (x : ℕ) (told : Bool) → x ≡ value r (nth 0) → told ≡ closes x → numberCloses r ≡ told
+closing-told r x told e f = sym (f ∙ ap closes e)
 
 abbrev Inv-loop : tie.InvT-loop
 Inv-loop file n i at bytes f₀ f = (f ≤ 13) × (all (fieldGood bytes) (take f fields) ≡ true)
@@ -68,6 +81,14 @@ loop-again c =
     let e = sym (c .before .is-in-range .ensures) ∙ not-false _ (c .if2 .left) in
     (omega arith, fields-more _ (l .f) (c .before .before .loop-test .taken) (l .inv .1) e)
 
+value-of-requires : tie.Need-value-of-requires Inv-loop μ-loop Inv-records μ-records
+value-of-requires c κs = search needs
+
+closes-requires : tie.Need-closes-requires Inv-loop μ-loop Inv-records μ-records
+closes-requires c κs =
+    let l = c .before .before .loop in
+    omega (arith, c .value-of .ensures, fields-at-most _ 0 (l .f) (omega arith) (l .inv .1) (omega arith))
+
 add-i : tie.Need-add-i Inv-loop μ-loop Inv-records μ-records
 add-i c = omega arith
 
@@ -76,22 +97,25 @@ records-less c = omega arith
 
 records-again : tie.Need-records-again Inv-loop μ-loop Inv-records μ-records
 records-again c =
-    let o = c .before .before .before .before .records in
-    let l = c .before .loop in
-    let s = now (c .before .before .before .before .before .before .args .file) in
+    let b = c .before .before .before in
+    let o = b .before .before .before .before .records in
+    let l = b .before .loop in
+    let s = now (b .before .before .before .before .before .before .args .file) in
     let r = part-record s (o .i) in
-    let g = fields-good _ (l .f) (ap length r ∙ record-length s (o .i) (omega arith)) (omega arith) (l .inv .1) in
+    let n = closing-told (lent s (o .i)) _ _ (c .before .before .value-of .ensures) (c .before .closes .ensures) ∙ not-false _ (c .if3 .left) in
+    let g = fields-good _ (l .f) (ap length r ∙ record-length s (o .i) (omega arith)) (omega arith) (l .inv .1) n in
     (omega arith, records-more s (o .i) (o .inv .1) (subst (λ (x : List ℕ). good x ≡ true) r g))
 
 returns : tie.Need-returns Inv-loop μ-loop Inv-records μ-records
 returns c =
     let o = c .before .before .records in
     let s = now (c .before .before .before .before .args .file) in
+    let r = lent s (o .i) in
     ⊎-elim
     (λ w. absurd (omega arith))
-    (λ w.
-    let e = fields-bad _ (w .2 .f) (w .3 .taken) (sym (w .4 .ensures) ∙ not-true _ (w .5 .taken)) in
-    ap At (w .6) ∙ sym (bad-first _ (o .i) s (omega arith) (o .inv .1) (subst (λ (x : List ℕ). good x ≡ false) (part-record s (o .i)) e)))
+    (⊎-elim
+    (λ w. ap At (w .6) ∙ found _ (o .i) s (omega arith) (o .inv .1) (fields-bad r (w .2 .f) (w .3 .taken) (sym (w .4 .ensures) ∙ not-true _ (w .5 .taken))))
+    (λ w. ap At (w .7) ∙ found _ (o .i) s (omega arith) (o .inv .1) (number-bad r (closing-told r _ _ (w .4 .ensures) (w .5 .ensures) ∙ not-true _ (w .6 .taken)))))
     (c .before .if1 .came)
 
 returns-2 : tie.Need-returns-2 Inv-loop μ-loop Inv-records μ-records
@@ -103,7 +127,7 @@ returns-2 c =
     let z : o .i ≡ recordCount s = omega arith in
     let g = o .inv .1 in
     sym (bad-none (records (recordCount s) s) (rw z at g)))
-    (λ w. absurd (omega arith))
+    (⊎-elim (λ w. absurd (omega arith)) (λ w. absurd (omega arith)))
     (c .before .if1 .came)
 
 pub first-bad-spec : {M : Type 1} → statement M
@@ -125,6 +149,8 @@ first-bad-spec =
     add-f
     loop-less
     loop-again
+    value-of-requires
+    closes-requires
     add-i
     records-less
     records-again
