@@ -21,7 +21,7 @@ use Rattle.record.specs.declared.vehicle.Found.the-variants.{At, Nothing
 pub use Rattle.record.proofs.Lists.{both, all-append, all-snoc, all-not, all-at, leading-all, leading-to, chain, chain-all}
 use Rattle.record.proofs.Lists.{all-but, split-at, leading-behind, leading-map}
 use Rattle.record.proofs.Numbers.{Bytes, bytes-take, bytes-drop, number-below}
-use Rattle.record.proofs.Records.{recordAt, part-record, records-snoc, records-split, length-records, records-append, record-alone}
+use Rattle.record.proofs.Records.{recordAt, lentAt, part-record, records-snoc, records-split, length-records, records-append, record-alone}
 
 -- ---- the table of fields
 -- what one computed test says of every row: a field lies in its record, and is one, two or eight bytes wide
@@ -189,10 +189,10 @@ bad-reading r e = go (good r) e
 
 -- what the part of a file that code lends for a record reads as
 module _ (bs : List ℕ) (i : ℕ) where
-  pub part-good : (v : Vehicle) → Good v ≡ reading (take (24 * i + 24 - 24 * i) (drop (24 * i) bs)) → (good (recordAt bs i) ≡ true) × (v ≡ vehicle (recordAt bs i))
+  pub part-good : (v : Vehicle) → Good v ≡ reading (lentAt bs i) → (good (recordAt bs i) ≡ true) × (v ≡ vehicle (recordAt bs i))
   part-good v e = good-reading (recordAt bs i) v (e ∙ ap reading (part-record bs i))
 
-  pub part-bad : Bad ≡ reading (take (24 * i + 24 - 24 * i) (drop (24 * i) bs)) → good (recordAt bs i) ≡ false
+  pub part-bad : Bad ≡ reading (lentAt bs i) → good (recordAt bs i) ≡ false
   part-bad e = bad-reading (recordAt bs i) (e ∙ ap reading (part-record bs i))
 
 -- a file of one record

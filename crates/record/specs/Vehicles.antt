@@ -26,7 +26,7 @@ field s w l h = record { start = s; width = w; low = l; high = h }
 
 abbrev pub fields : List Field
 fields =
-    -- 0-7 vehicle number
+    -- 0-7 vehicle number; that it closes is asked beside the table
     field 0 8 1 999999999999
     -- 8-9 mass
     ∷ field 8 2 1 2500

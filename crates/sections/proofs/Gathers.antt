@@ -1,11 +1,12 @@
 -- What is offered on a route, section by section. Assumes nothing.
-use Prim.Native.Nat.{ℕ, suc, _+_, _*_, _-_, _≤_, _<_}
+use Prim.Native.Nat.{ℕ, zero, suc, _+_, _*_, _-_, _≤_, _<_}
+use native.Mathlib.Nat.{not-suc-le-zero, le-of-suc-le-suc}
+use native.Mathlib.Numerals.{add-one}
 use native.Mathlib.Omega.{arith}
 use mathlib.Core.Path.{_≡_, refl, sym, ap, ap₂, _∙_}
 use mathlib.Core.List.{List, [], _∷_, zipWith}
-use lib.ListN.{length, getD, take, drop, drop-of-length-le}
+use lib.ListN.{length, getD, set, take, drop, drop-of-length-le}
 use Rattle.record.specs.Records.{recordCount}
-use Rattle.record.proofs.Lists.{spell}
 use Rattle.record.proofs.Records.{recordAt}
 use Rattle.facts.specs.declared.Facts.{Facts}
 use Rattle.order.specs.declared.Order.{Order}
@@ -19,14 +20,33 @@ use Rattle.sections.specs.Sections.{sectionsOf}
 use Rattle.sections.specs.declared.grant.Offers.{Offers}
 use Rattle.sections.proofs.Places.{length-sections, section-read, sections-from}
 
--- two arrays of five, member by member
-module _ (g : ℕ → ℕ → ℕ) (xs ys : List ℕ) where
-  abbrev at : ℕ → ℕ
-  at i = g (getD xs i 0) (getD ys i 0)
+-- two lists, member by member as far as a place, and behind it the second
+module _ (g : ℕ → ℕ → ℕ) where
+  abbrev pub zippedTo : ℕ → List ℕ → List ℕ → List ℕ
+  zippedTo zero xs ys = ys
+  zippedTo (suc i) [] ys = ys
+  zippedTo (suc i) (x ∷ xs) [] = []
+  zippedTo (suc i) (x ∷ xs) (y ∷ ys) = g x y ∷ zippedTo i xs ys
 
-  pub five-pairs : length xs ≡ 5 → length ys ≡ 5 → {a b c d e : ℕ} → a ≡ at 0 → b ≡ at 1 → c ≡ at 2 → d ≡ at 3 → e ≡ at 4 → (a ∷ b ∷ c ∷ d ∷ e ∷ []) ≡ zipWith g xs ys
+  -- one place more; as far as both go
+  zipped-suc : (i : ℕ) (xs ys : List ℕ) → i < length xs → i < length ys → set (zippedTo i xs ys) i (g (getD xs i 0) (getD (zippedTo i xs ys) i 0)) ≡ zippedTo (suc i) xs ys
+  zipped-suc i [] ys h k = absurd (not-suc-le-zero h)
+  zipped-suc i (x ∷ xs) [] h k = absurd (not-suc-le-zero k)
+  zipped-suc zero (x ∷ xs) (y ∷ ys) h k = refl
+  zipped-suc (suc i) (x ∷ xs) (y ∷ ys) h k = ap (λ (l : List ℕ). g x y ∷ l) (zipped-suc i xs ys (le-of-suc-le-suc h) (le-of-suc-le-suc k))
+
+  pub zipped-more : (i z : ℕ) (xs ys zs : List ℕ) → zs ≡ zippedTo i xs ys → i < length xs → i < length ys → z ≡ g (getD xs i 0) (getD zs i 0) → set zs i z ≡ zippedTo (i + 1) xs ys
+  zipped-more i z xs ys zs e h k q =
+      ap₂ (λ (l : List ℕ) (m : ℕ). set l i m) e (q ∙ ap (λ (l : List ℕ). g (getD xs i 0) (getD l i 0)) e)
+      ∙ zipped-suc i xs ys h k
+      ∙ ap (λ (n : ℕ). zippedTo n xs ys) (sym (add-one i))
+
+  pub zipped-whole : (xs ys : List ℕ) → length xs ≡ length ys → zippedTo (length xs) xs ys ≡ zipWith g xs ys
   unfolding zipWith
-  five-pairs m n p0 p1 p2 p3 p4 = (λ i. p0 i ∷ p1 i ∷ p2 i ∷ p3 i ∷ p4 i ∷ []) ∙ sym (ap₂ (zipWith g) (spell 5 xs m) (spell 5 ys n))
+  zipped-whole [] [] e = refl
+  zipped-whole [] (y ∷ ys) e = absurd (omega arith)
+  zipped-whole (x ∷ xs) [] e = absurd (omega arith)
+  zipped-whole (x ∷ xs) (y ∷ ys) e = ap (λ (l : List ℕ). g x y ∷ l) (zipped-whole xs ys (omega arith))
 
 module _ (f : Facts) where
   -- a section in front of those further on

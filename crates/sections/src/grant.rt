@@ -1,6 +1,6 @@
 // The category that a train is granted on every section of a route, and its speed on each.
 ghost use mathlib.Core.Path.{_≡_};
-ghost use mathlib.Core.List.{[], zipWith};
+ghost use mathlib.Core.List.{[]};
 ghost use Prim.Native.Nat.{min};
 ghost use Rattle.rules.specs.CrossBorder.{crossBorder};
 ghost use Rattle.sections.specs.Routes.{grantedOn, speedsOn};
@@ -44,46 +44,26 @@ fn first_rule(here: u8, further: u8) -> u8
     if here == 0 { further } else { here }
 }
 
-fn first_rules(here: [u8; 5], further: [u8; 5]) -> [u8; 5]
-    ensures { λ r. ⌜ r ≡ zipWith firstRule here further ⌝ }
-{
-    [
-        first_rule(here[0], further[0]),
-        first_rule(here[1], further[1]),
-        first_rule(here[2], further[2]),
-        first_rule(here[3], further[3]),
-        first_rule(here[4], further[4]),
-    ]
-}
-
 fn slower(here: u8, further: u8) -> u8
     ensures { λ r. ⌜ r ≡ min here further ⌝ }
 {
     if here < further { here } else { further }
 }
 
-fn slower_speeds(here: [u8; 5], further: [u8; 5]) -> [u8; 5]
-    ensures { λ r. ⌜ r ≡ zipWith min here further ⌝ }
-{
-    [
-        slower(here[0], further[0]),
-        slower(here[1], further[1]),
-        slower(here[2], further[2]),
-        slower(here[3], further[3]),
-        slower(here[4], further[4]),
-    ]
-}
-
-// A section in front of those further on.
+// A section in front of those further on, category by category.
 fn with_section(here: Decision, further: Offers) -> Offers
     ensures { λ r. ⌜ r ≡ inFront here further ⌝ }
 {
     let broken_here = here.broken;
-    let broken_further = further.broken;
-    let broken = first_rules(broken_here, broken_further);
     let speeds_here = here.speeds;
-    let speeds_further = further.speeds;
-    let speeds = slower_speeds(speeds_here, speeds_further);
+    let mut broken = further.broken;
+    let mut speeds = further.speeds;
+    let mut i = 0;
+    while i < 5 {
+        broken[i] = first_rule(broken_here[i], broken[i]);
+        speeds[i] = slower(speeds_here[i], speeds[i]);
+        i += 1;
+    }
     Offers {
         broken: broken,
         speeds: speeds,

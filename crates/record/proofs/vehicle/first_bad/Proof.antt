@@ -1,5 +1,5 @@
 -- `record::vehicle::first_bad` meets its contract: the records before `i` are good, and so are the fields before `f` of the record at `i`. Assumes nothing.
-use Prim.Native.Nat.{ℕ, _≤_, _<_, _+_, _*_, _-_}
+use Prim.Native.Nat.{ℕ, _≤_, _<_, _-_}
 use mathlib.Core.Path.{_≡_, refl, sym, ap, subst, _∙_}
 use mathlib.Core.Bool.{Bool, true, false}
 use mathlib.Core.List.{List}
@@ -8,23 +8,19 @@ use native.Mathlib.Omega.{arith}
 use borrow.Author.Needs.{needs}
 use borrow.Author.Tests.{not-true, not-false}
 use denote.Ref.{now}
-use lib.ListN.{length, take, drop}
+use lib.ListN.{length, take}
 use Rattle.record.specs.Words.{all}
 use Rattle.record.specs.Records.{records, recordCount}
 use Rattle.record.specs.Closing.{closes}
 use Rattle.record.specs.Vehicles.{nth, value, fields, fieldGood, numberCloses, good, firstBad}
 use Rattle.record.specs.declared.vehicle.Found.the-variants.{At}
-use Rattle.record.proofs.Records.{part-record, record-length}
+use Rattle.record.proofs.Records.{lentAt, part-record, record-length}
 use Rattle.record.proofs.Vehicles.{fields-more, fields-good, fields-bad, fields-at-most, number-bad, records-more, bad-first, bad-none}
 use Rattle.record.proofs.vehicle.first_bad.Statement.{statement}
 use Rattle.record.proofs.vehicle.first_bad.Tie as tie
 
--- the part of a file that is lent for a record
-abbrev lent : List ℕ → ℕ → List ℕ
-lent s i = take (24 * i + 24 - 24 * i) (drop (24 * i) s)
-
 -- a bad one behind good ones is the first
-found : (n i : ℕ) (s : List ℕ) → i < n → all good (records i s) ≡ true → good (lent s i) ≡ false → At i ≡ firstBad (records n s)
+found : (n i : ℕ) (s : List ℕ) → i < n → all good (records i s) ≡ true → good (lentAt s i) ≡ false → At i ≡ firstBad (records n s)
 found n i s h before bad = sym (bad-first n i s h before (subst (λ (x : List ℕ). good x ≡ false) (part-record s i) bad))
 
 -- what the code was told of a record's number
@@ -102,7 +98,7 @@ records-again c =
     let l = b .before .loop in
     let s = now (b .before .before .before .before .before .before .args .file) in
     let r = part-record s (o .i) in
-    let n = closing-told (lent s (o .i)) _ _ (c .before .before .value-of .ensures) (c .before .closes .ensures) ∙ not-false _ (c .if3 .left) in
+    let n = closing-told (lentAt s (o .i)) _ _ (c .before .before .value-of .ensures) (c .before .closes .ensures) ∙ not-false _ (c .if3 .left) in
     let g = fields-good _ (l .f) (ap length r ∙ record-length s (o .i) (omega arith)) (omega arith) (l .inv .1) n in
     (omega arith, records-more s (o .i) (o .inv .1) (subst (λ (x : List ℕ). good x ≡ true) r g))
 
@@ -110,7 +106,7 @@ returns : tie.Need-returns Inv-loop μ-loop Inv-records μ-records
 returns c =
     let o = c .before .before .records in
     let s = now (c .before .before .before .before .args .file) in
-    let r = lent s (o .i) in
+    let r = lentAt s (o .i) in
     ⊎-elim
     (λ w. absurd (omega arith))
     (⊎-elim
