@@ -103,12 +103,18 @@
  *     59     rule 18 is broken: a wagon, byte 21 set, not isolated    1
  *     60-63  slowest speed                                          200
  *     64-68  settings of the first five, 4 where there is none        4 each
- *     69-127 not used                                                 0 each
+ *     69-72  length of records set to V                         200,000
+ *     73-127 not used                                                 0 each
  *
  *   Where an account is read, any other length than 128, or any figure, mark, setting or unused byte above its ceiling,
  *   is refusal 7. The empty account, which prskavon_account_of gives for no bytes, has 200 in byte 60 and 4 in bytes 64
  *   to 68; 128 zeros are an account too, but one whose slowest speed is 0. A figure once given its bytes
  *   never moves; figures to come take unused ones.
+ *
+ *   In categories 1 to 3 the length deduction (one percent for each begun 20 m above 500 m, at most ten) and rule 46 read
+ *   bytes 69-72 and no working engine's length; rule 22 reads bytes 16-19. An account that was kept from before bytes
+ *   69-72 held this figure has 0 there, is taken, and is judged without the deduction, and an account joined from it has
+ *   too little there: make both again from the records.
  */
 #ifndef PRSKAVON_H
 #define PRSKAVON_H

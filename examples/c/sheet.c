@@ -10,9 +10,10 @@
 
 enum { VEHICLES = 11, TRAIN = VEHICLES * PRSKAVON_VEHICLE, ENGINE = PRSKAVON_VEHICLE, CUT = 4 * PRSKAVON_VEHICLE };
 enum { LINES = 3, ORDERS = LINES * PRSKAVON_ORDER };
+enum { MIDDLE = 6 * PRSKAVON_VEHICLE, LONGER = TRAIN + PRSKAVON_VEHICLE };
 
-/* Kinds and settings of bytes 17 and 18, as far as this train has them. */
-enum { WAGON = 0, WORKING_ENGINE = 2, SET_V = 2 };
+/* Kinds and settings of bytes 17 and 18, as far as these trains have them. */
+enum { WAGON = 0, WORKING_ENGINE = 2, ISOLATED = 0, SET_V = 2 };
 
 struct vehicle {
     uint64_t number;
@@ -180,6 +181,35 @@ static void route_by_account(const uint8_t *engine, const uint8_t *account, cons
     printf("  the same category and speeds\n");
 }
 
+/* How long the hauled part is, what of it is set to V, and what the sheet says then; 550.0 t are braked, less k percent. */
+static void lengths(const uint8_t *train, size_t train_len, const uint8_t *order, uint64_t hauled, int32_t tonnes) {
+    uint8_t account[PRSKAVON_ACCOUNT], sheet[PRSKAVON_SHEET];
+    expect(prskavon_account_of(train + ENGINE, train_len - ENGINE, account, sizeof account) == 0, "the wagons' account");
+    expect(prskavon_sheet_of_train(train, train_len, order, PRSKAVON_ORDER, sheet, sizeof sheet) == 0, "the train's sheet");
+    uint64_t all = get(account + 16, 4), in_v = get(account + 69, 4), braked = get(sheet + 24, 4);
+    printf("  hauled %" PRIu64 ".%" PRIu64 " m, of these %" PRIu64 ".%" PRIu64 " m set to V\n", all / 10, all % 10,
+           in_v / 10, in_v % 10);
+    printf("  granted %s, margin %" PRId32 " t, braked mass %" PRIu64 ".%" PRIu64 " t\n", category[sheet[1]], margin(sheet),
+           braked / 10, braked % 10);
+    expect(all == hauled && in_v == 5000, "500.0 m are set to V");
+    expect(sheet[1] == 1 && margin(sheet) == tonnes && braked == 5500, "up to 500 m set to V nothing is deducted");
+}
+
+/* 550.0 t are 18.7 t above 77 percent of 690.0 t. The isolated wagon costs 77 percent of its 20.0 t, which are 15.4 t, and
+ * leaves 3.3 t; were its metres counted, k would be 2 and category 1 lost. */
+static void isolated_metres(const uint8_t *order) {
+    uint8_t train[LONGER];
+    put_train(train, 450);
+    for (size_t i = 1; i < VEHICLES; i++) put(train + i * PRSKAVON_VEHICLE + 14, 500, 2);
+    printf("Ten wagons of 50.0 m, set to V and braked with 45.0 t each\n");
+    lengths(train, TRAIN, order, 5000, 18);
+    printf("The same with an isolated wagon of 40.0 m and 20.0 t in the middle\n");
+    memmove(train + MIDDLE + PRSKAVON_VEHICLE, train + MIDDLE, TRAIN - MIDDLE);
+    put_vehicle(train + MIDDLE, (struct vehicle){.number = 125, .mass = 200, .length = 400, .axles = 4, .kind = WAGON,
+                                                 .setting = ISOLATED, .speed = 120});
+    lengths(train, LONGER, order, 5400, 3);
+}
+
 static void given(uint64_t answer, unsigned number, size_t place, const char *words) {
     print_answer(answer, words);
     expect(prskavon_number(answer) == number && prskavon_place(answer) == place, words);
@@ -235,6 +265,7 @@ int main(void) {
     printf("The vehicle that holds the speed\n");
     speed_holder(train);
     routes(train, order, account);
+    isolated_metres(order);
 
     memset(sheet, 0xaa, sizeof sheet); /* a mark that no refused call may touch */
     printf("The last wagon's number mistyped, 177 for 117\n");

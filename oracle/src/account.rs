@@ -32,6 +32,8 @@ pub struct Account {
     pub rule_18: bool,
     pub slowest: u32,
     pub first: [u8; 5],
+    /// Of records set to V, for the length deduction.
+    pub length_v: u32,
 }
 
 impl Account {
@@ -56,6 +58,7 @@ impl Account {
         rule_18: false,
         slowest: 200,
         first: [NO_SETTING; 5],
+        length_v: 0,
     };
 
     /// The account of good hauled records.
@@ -93,6 +96,7 @@ impl Account {
             SET_TO_V => {
                 self.braked_v += u32::from(vehicle.braked_v);
                 self.axles_v += u32::from(vehicle.axles);
+                self.length_v += u32::from(vehicle.length);
             }
             SET_TO_M => {
                 self.braked_m += u32::from(vehicle.braked_m);
@@ -136,6 +140,7 @@ impl Account {
             rule_18: self.rule_18 || right.rule_18,
             slowest: self.slowest.min(right.slowest),
             first: first_settings(self, right),
+            length_v: self.length_v + right.length_v,
         };
         demand(joined.is_within(), 2)?;
         Ok(joined)
@@ -161,6 +166,7 @@ impl Account {
             && self.axles <= 4_800
             && self.axles_v <= 4_800
             && self.first.iter().all(|&setting| setting <= NO_SETTING)
+            && self.length_v <= 200_000
     }
 
     /// None where the bytes are no account or a figure is above its ceiling (refusal 7).
@@ -190,9 +196,10 @@ impl Account {
             rule_18: bytes[59] == 1,
             slowest: figure(60),
             first: [bytes[64], bytes[65], bytes[66], bytes[67], bytes[68]],
+            length_v: figure(69),
         };
         let marks = bytes[56..60].iter().all(|&mark| mark <= 1);
-        let unused = bytes[69..].iter().all(|&byte| byte == 0);
+        let unused = bytes[73..].iter().all(|&byte| byte == 0);
         (marks && unused && account.is_within()).then_some(account)
     }
 
@@ -224,6 +231,7 @@ impl Account {
         bytes[59] = u8::from(self.rule_18);
         bytes[60..64].copy_from_slice(&self.slowest.to_le_bytes());
         bytes[64..69].copy_from_slice(&self.first);
+        bytes[69..73].copy_from_slice(&self.length_v.to_le_bytes());
         bytes
     }
 }
@@ -307,6 +315,29 @@ mod tests {
         assert_eq!(runs.join(&runs).unwrap_err().number, 2);
     }
 
+    /// Each wagon is 12 m long.
+    #[test]
+    fn the_v_length_is_that_of_records_set_to_v() {
+        let account = Account::of(&wagons(&[0, 1, 2, 3, 2, 0]));
+        assert_eq!((account.length, account.length_v), (720, 240));
+        assert_eq!(account.write()[69..73], [240, 0, 0, 0]);
+        let joined = account.join(&Account::of(&wagons(&[2, 1]))).unwrap();
+        assert_eq!((joined.length, joined.length_v), (960, 360));
+    }
+
+    #[test]
+    fn a_v_length_has_the_ceiling_of_a_length() {
+        let with = |length_v| Account {
+            length_v,
+            ..Account::EMPTY
+        };
+        let joined = with(150_000).join(&with(50_000));
+        assert_eq!(joined, Ok(with(200_000)));
+        assert_eq!(with(150_001).join(&with(50_000)).unwrap_err().number, 2);
+        assert_eq!(Account::read(&with(200_000).write()), Some(with(200_000)));
+        assert_eq!(Account::read(&with(200_001).write()), None);
+    }
+
     #[test]
     fn an_account_keeps_its_bytes() {
         let account = Account::of(&wagons(&[0, 1, 2, 3, 1, 2]));
@@ -328,7 +359,7 @@ mod tests {
 
     #[test]
     fn a_mark_of_2_and_an_unused_byte_are_no_account() {
-        for at in (56..60).chain(69..128) {
+        for at in (56..60).chain(73..128) {
             let mut bytes = Account::EMPTY.write();
             bytes[at] = 2;
             assert_eq!(Account::read(&bytes), None, "{at}");

@@ -9,11 +9,12 @@ use crate::order::Order;
 /// A figure with the boundary it is asked against.
 type Fixed = (&'static str, fn(&Facts) -> u32, i64);
 
-const FIXED: [Fixed; 13] = [
+const FIXED: [Fixed; 14] = [
     ("train length", |facts| facts.train_length, 7_400),
     ("hauled length", |facts| facts.hauled_length, 7_000),
-    ("hauled length", |facts| facts.hauled_length, 5_000),
-    ("hauled length", |facts| facts.hauled_length, 5_200),
+    ("V length", |facts| facts.hauled_length_v, 5_000),
+    ("V length", |facts| facts.hauled_length_v, 5_200),
+    ("V length", |facts| facts.hauled_length_v, 7_000),
     ("axles", |facts| facts.axles, 250),
     ("hauled mass", |facts| facts.hauled_mass, 8_000),
     ("hauled mass", |facts| facts.hauled_mass, 12_000),
@@ -49,7 +50,7 @@ fn above_admissible(facts: &Facts, order: &Order) -> i64 {
 }
 
 fn above_begun(facts: &Facts, _: &Order) -> i64 {
-    match facts.hauled_length {
+    match facts.hauled_length_v {
         length @ 5_399..=6_801 => around(i64::from(length), 200),
         _ => FAR,
     }

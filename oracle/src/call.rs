@@ -1,11 +1,12 @@
 //! One call of one function, the same for the model and for the library.
 
-use crate::account::ACCOUNT;
+use crate::account::{Account, ACCOUNT};
 use crate::calls;
+use crate::facts::Facts;
 use crate::line::hex;
 use crate::order::ORDER;
 use crate::sheet::SHEET;
-use crate::vehicle::VEHICLE;
+use crate::vehicle::{is_working, VEHICLE};
 
 /// Something that has the seven functions.
 pub trait Side {
@@ -145,6 +146,30 @@ pub enum Inputs {
         hauled: Vec<u8>,
         orders: Vec<u8>,
     },
+}
+
+impl Inputs {
+    /// The facts of a train, or of engines with an account, that is not refused.
+    pub fn facts(&self) -> Option<Facts> {
+        match self {
+            Inputs::Train { vehicles, .. } | Inputs::TrainRoute { vehicles, .. } => {
+                let records = vehicles.as_chunks().0;
+                let leading = records.iter().take_while(|one| is_working(one)).count();
+                let (working, hauled) = records.split_at(leading);
+                Some(Facts::of_train(working, hauled))
+            }
+            Inputs::Engines {
+                engines, hauled, ..
+            }
+            | Inputs::AccountRoute {
+                engines, hauled, ..
+            } => {
+                let account = Account::read(hauled)?;
+                Some(Facts::of_account(engines.as_chunks().0, &account))
+            }
+            _ => None,
+        }
+    }
 }
 
 /// The longest buffer that is lent, with room behind it to see a write past its end.

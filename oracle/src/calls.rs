@@ -194,7 +194,7 @@ mod tests {
     use crate::gen::cases::{case_a, worked_sections};
     use crate::gen::draft::{bytes, Draft};
     use crate::gen::routes::written;
-    use crate::vehicle::SET_TO_M;
+    use crate::vehicle::{Vehicle, ISOLATED, SET_TO_M, SET_TO_R};
 
     fn sheet_of(draft: &Draft) -> [u8; SHEET] {
         let mut room = [0; SHEET];
@@ -231,6 +231,63 @@ mod tests {
         let mut room = [9; SHEET];
         let answer = sheet_of_account(&engines, &account, &draft.order.write(), &mut room);
         assert_eq!((answer, &room[..3]), (0, &[1, 1, 0][..]));
+    }
+
+    /// Case A's engine beside its account with other figures; 600.0 t are braked.
+    fn sheet_beside(change: fn(&mut Account)) -> [u8; SHEET] {
+        let draft = case_a();
+        let mut account = Account::of(bytes(&draft.hauled).as_chunks().0);
+        change(&mut account);
+        let (engines, order) = (bytes(&draft.working), draft.order.write());
+        let mut room = [9; SHEET];
+        let answer = sheet_of_account(&engines, &account.write(), &order, &mut room);
+        assert_eq!(answer, 0);
+        room
+    }
+
+    /// The hauled part is 150 m long whatever its vehicles set to V are said to be.
+    #[test]
+    fn an_account_that_no_list_has_meets_rule_46() {
+        let braked = |sheet: [u8; SHEET]| u16::from_le_bytes([sheet[24], sheet[25]]);
+        let at = sheet_beside(|account| account.length_v = 7_000);
+        assert_eq!((&at[4..7], braked(at)), (&[0; 3][..], 5_400));
+        let above = sheet_beside(|account| account.length_v = 7_001);
+        assert_eq!((&above[4..7], braked(above)), (&[46; 3][..], 5_400));
+        assert_eq!((above[1], above[3]), (0, 0));
+        let most = sheet_beside(|account| account.length_v = 200_000);
+        assert_eq!((&most[4..7], braked(most)), (&[46; 3][..], 5_400));
+    }
+
+    #[test]
+    fn rule_46_keeps_its_place() {
+        let behind_42 = sheet_beside(|account| (account.length_v, account.mass) = (7_001, 8_001));
+        assert_eq!(behind_42[4..7], [42; 3]);
+        let before_47 = sheet_beside(|account| (account.length_v, account.braked_v) = (7_001, 0));
+        assert_eq!(before_47[4..7], [46; 3]);
+        let behind_22 = sheet_beside(|account| (account.length_v, account.length) = (7_001, 7_001));
+        assert_eq!(behind_22[3..9], [22; 6]);
+    }
+
+    /// Ten wagons of 50 m make 500 m set to V; engine, isolated and M metres beside them bring no percent.
+    #[test]
+    fn k_counts_hauled_vehicles_set_to_v_alone() {
+        let mut draft = case_a();
+        for wagon in &mut draft.hauled {
+            wagon.length = 500;
+        }
+        let braked = |draft: &Draft| u16::from_le_bytes([sheet_of(draft)[24], sheet_of(draft)[25]]);
+        assert_eq!(braked(&draft), 6_000);
+        for (setting, more) in [(ISOLATED, 0), (SET_TO_M, 375), (SET_TO_R, 0)] {
+            let mut beside = draft.clone();
+            let other = Vehicle {
+                setting,
+                ..draft.hauled[4]
+            };
+            beside.hauled.insert(4, other);
+            assert_eq!(braked(&beside), 6_000 + more, "{setting}");
+        }
+        draft.hauled[4].length = 501;
+        assert_eq!(braked(&draft), 5_940);
     }
 
     #[test]

@@ -53,7 +53,7 @@ impl Category {
         let (v, m) = (i64::from(facts.braked_v), i64::from(facts.braked_m));
         if self.is_p() {
             // Note 8: three quarters of M; note 7: k percent less.
-            (4 * v + 3 * m) * (100 - begun_20_m(facts.hauled_length).min(10))
+            (4 * v + 3 * m) * (100 - deduction(facts.hauled_length_v))
         } else {
             4 * (v + m) * 100
         }
@@ -71,7 +71,12 @@ impl Category {
     }
 }
 
-/// The begun 20 m by which the hauled part passes 500 m, before they are held at 10.
-pub fn begun_20_m(hauled_length: u32) -> i64 {
-    i64::from(hauled_length.saturating_sub(5_000).div_ceil(200))
+/// k: the begun 20 m by which the hauled vehicles set to V pass 500 m, at most 10 (note 7, request Three).
+pub fn deduction(hauled_length_v: u32) -> i64 {
+    begun_20_m(hauled_length_v).min(10)
+}
+
+/// The same before they are held at 10.
+pub fn begun_20_m(hauled_length_v: u32) -> i64 {
+    i64::from(hauled_length_v.saturating_sub(5_000).div_ceil(200))
 }

@@ -2,25 +2,52 @@
 
 use std::fmt::Write;
 
-use crate::account::Account;
 use crate::boundaries::Boundaries;
 use crate::call::{Call, Function, Inputs, FUNCTIONS};
-use crate::facts::Facts;
+use crate::lengths::Lengths;
 use crate::numbers::{Met, Numbers, Seat};
 use crate::offered::Offered;
 use crate::order::Order;
 use crate::precedence::{applying, excluded, refusals, shown, SECTION};
 use crate::routes::Routes;
-use crate::vehicle::is_working;
 
-/// Rules that a sheet can name; 46 cannot come first, for a hauled part above 7,000 breaks 22 before it.
+/// Rules that a sheet can name.
 const COMMON_RULES: [u8; 9] = [15, 16, 17, 18, 19, 20, 21, 22, 23];
 const P_RULES: [u8; 8] = [30, 31, 40, 41, 42, 43, 44, 47];
 const G_RULES: [u8; 7] = [30, 31, 32, 33, 34, 35, 47];
 
+/// In categories 1 to 3, of accounts that no list has: where a train has more than 700 m set to V, 22 comes before it.
+const UNLISTED: u8 = 46;
+
+/// Whose sheets they are.
+#[derive(Clone, Copy, PartialEq, Eq)]
+enum Whose {
+    Trains,
+    Accounts,
+}
+
+impl Whose {
+    fn name(self) -> &'static str {
+        match self {
+            Whose::Trains => "trains",
+            Whose::Accounts => "accounts",
+        }
+    }
+
+    /// The rules of its own that a category can break first.
+    fn own_rules(self, category: usize) -> Vec<u8> {
+        match (category, self) {
+            (1..=3, Whose::Accounts) => [&P_RULES[..], &[UNLISTED]].concat(),
+            (1..=3, Whose::Trains) => P_RULES.to_vec(),
+            _ => G_RULES.to_vec(),
+        }
+    }
+}
+
 /// What the sheets of one function said.
 #[derive(Clone)]
 struct Sheets {
+    whose: Whose,
     common: [u64; 48],
     by_category: [[u64; 48]; 5],
     granted: [[u64; 6]; 6],
@@ -35,6 +62,7 @@ pub struct Coverage {
     offered: Offered,
     routes: [Routes; 2],
     vehicle_numbers: Numbers,
+    lengths: Lengths,
 }
 
 /// What a run has to meet.
@@ -62,7 +90,8 @@ impl Scope {
 
 impl Default for Coverage {
     fn default() -> Coverage {
-        let none = Sheets {
+        let none = |whose| Sheets {
+            whose,
             common: [0; 48],
             by_category: [[0; 48]; 5],
             granted: [[0; 6]; 6],
@@ -71,10 +100,11 @@ impl Default for Coverage {
         Coverage {
             numbers: [[0; 32]; FUNCTIONS.len()],
             pairs: [[[0; 16]; 16]; FUNCTIONS.len()],
-            sheets: [none.clone(), none],
+            sheets: [none(Whose::Trains), none(Whose::Accounts)],
             offered: Offered::default(),
             routes: [Routes::default(), Routes::default()],
             vehicle_numbers: Numbers::default(),
+            lengths: Lengths::default(),
         }
     }
 }
@@ -91,14 +121,19 @@ impl Coverage {
                 self.pairs[function as usize][usize::from(first)][usize::from(second)] += 1;
             }
         }
+        let facts = match all[..] {
+            [] => call.inputs.facts(),
+            _ => None,
+        };
+        self.lengths.note(call, &all, facts.as_ref());
         if let (Some(sheets), true) = (self.sheets_of(function), answer == 0) {
             sheets.note(buffer);
-            if let Some((facts, order)) = judged(call) {
-                sheets.boundaries.note(&facts, &order);
+            if let (Some(facts), Some(order)) = (&facts, order(call)) {
+                sheets.boundaries.note(facts, &order);
             }
         }
         if let Some(routes) = self.routes_of(function) {
-            routes.note(call, &all, || facts(call));
+            routes.note(call, &all, facts.as_ref());
         }
     }
 
@@ -140,6 +175,7 @@ impl Coverage {
             routes.add(more);
         }
         self.vehicle_numbers.add(&other.vehicle_numbers);
+        self.lengths.add(&other.lengths);
     }
 
     /// What could have occurred and did not.
@@ -156,15 +192,22 @@ impl Coverage {
                 self.missing_pairs(function, &mut missing);
             }
         }
-        self.sheets[0].missing("trains", scope, &mut missing);
+        self.sheets[0].missing(scope, &mut missing);
         missing.extend(self.routes[0].missing(Function::RouteOfTrain, scope));
         missing.extend(self.vehicle_numbers.missing(scope));
+        missing.extend(self.lengths.missing(scope));
         if scope == Scope::Functions {
-            self.sheets[1].missing("accounts", scope, &mut missing);
+            self.sheets[1].missing(scope, &mut missing);
             missing.extend(self.offered.missing());
             missing.extend(self.routes[1].missing(Function::RouteOfAccount, scope));
         }
         missing
+    }
+
+    /// What cannot occur and did.
+    pub fn impossible_met(&self) -> Vec<String> {
+        let [trains, accounts] = &self.sheets;
+        [trains.impossible_met(), accounts.impossible_met()].concat()
     }
 
     fn missing_pairs(&self, function: Function, missing: &mut Vec<String>) {
@@ -196,14 +239,15 @@ impl Coverage {
             });
             text += &rows(function, &row.collect::<Vec<_>>());
         }
-        text += &self.sheets[0].table("trains");
+        text += &self.sheets[0].table();
         text += &self.routes[0].table(Function::RouteOfTrain, scope);
         if scope == Scope::Functions {
-            text += &self.sheets[1].table("accounts");
+            text += &self.sheets[1].table();
             text += &self.offered.table();
             text += &self.routes[1].table(Function::RouteOfAccount, scope);
         }
         text += &self.vehicle_numbers.table(scope);
+        text += &self.lengths.table(scope);
         text + &impossible(scope)
     }
 }
@@ -258,40 +302,16 @@ fn impossible(scope: Scope) -> String {
     text +=
         "  a tie of categories 3 and 4 with another slowest section: they share speed and column\n";
     text += "  refusals that are not in a function's row: the page gives it no such refusal\n";
-    text += "  rule 46 as the first broken: a hauled part above 7,000 breaks 22, or 21 before it\n";
-    text += "  rules 40 to 44 in categories 4 and 5, 32 to 35 in 1 to 3: not asked there\n";
+    text += "  rule 46 as a train's first broken: with more than 7,000 set to V its hauled part breaks 22, or 21 before it\n";
+    text += "  rules 40 to 46 in categories 4 and 5, 32 to 35 in 1 to 3: not asked there\n";
     text += "  a granted number below the asked one: not among the asked and greater ones\n";
     text
 }
 
-/// The facts and the order behind a sheet that was written.
-fn judged(call: &Call) -> Option<(Facts, Order)> {
+/// The order behind a sheet that was written.
+fn order(call: &Call) -> Option<Order> {
     match &call.inputs {
-        Inputs::Train { order, .. } | Inputs::Engines { order, .. } => {
-            Some((facts(call)?, Order::read(order)?))
-        }
-        _ => None,
-    }
-}
-
-/// The facts of a train, or of engines with an account, that is not refused.
-fn facts(call: &Call) -> Option<Facts> {
-    match &call.inputs {
-        Inputs::Train { vehicles, .. } | Inputs::TrainRoute { vehicles, .. } => {
-            let records = vehicles.as_chunks().0;
-            let leading = records.iter().take_while(|one| is_working(one)).count();
-            let (working, hauled) = records.split_at(leading);
-            Some(Facts::of_train(working, hauled))
-        }
-        Inputs::Engines {
-            engines, hauled, ..
-        }
-        | Inputs::AccountRoute {
-            engines, hauled, ..
-        } => {
-            let account = Account::read(hauled)?;
-            Some(Facts::of_account(engines.as_chunks().0, &account))
-        }
+        Inputs::Train { order, .. } | Inputs::Engines { order, .. } => Order::read(order),
         _ => None,
     }
 }
@@ -324,14 +344,15 @@ impl Sheets {
         self.boundaries.add(&other.boundaries);
     }
 
-    fn missing(&self, whose: &str, scope: Scope, missing: &mut Vec<String>) {
+    fn missing(&self, scope: Scope, missing: &mut Vec<String>) {
+        let whose = self.whose.name();
         for rule in COMMON_RULES {
             if self.common[usize::from(rule)] == 0 {
                 missing.push(format!("{whose}: common rule {rule}"));
             }
         }
         for (category, rules) in (1..).zip(&self.by_category) {
-            for &rule in own_rules(category) {
+            for rule in self.whose.own_rules(category) {
                 if rules[usize::from(rule)] == 0 {
                     missing.push(format!("{whose}: category {category} rule {rule}"));
                 }
@@ -348,7 +369,22 @@ impl Sheets {
         }
     }
 
-    fn table(&self, whose: &str) -> String {
+    /// Rules that a sheet named and cannot name.
+    fn impossible_met(&self) -> Vec<String> {
+        let mut met = vec![];
+        for (category, rules) in (1..).zip(&self.by_category) {
+            let own = self.whose.own_rules(category);
+            let named = (1..48).filter(|&rule| rules[usize::from(rule)] > 0);
+            for rule in named.filter(|rule| !COMMON_RULES.contains(rule) && !own.contains(rule)) {
+                let whose = self.whose.name();
+                met.push(format!("{whose}: category {category} rule {rule}"));
+            }
+        }
+        met
+    }
+
+    fn table(&self) -> String {
+        let whose = self.whose.name();
         let mut text = format!("first rule broken, sheets of {whose}\n  rule   common");
         for category in 1..=5 {
             let _ = write!(text, " {:>8}", format!("cat {category}"));
@@ -381,16 +417,49 @@ impl Sheets {
     }
 }
 
-fn own_rules(category: usize) -> &'static [u8] {
-    match category {
-        1..=3 => &P_RULES,
-        _ => &G_RULES,
-    }
-}
-
 /// Every pair of asked and granted numbers that can occur.
 fn grants() -> Vec<(usize, usize)> {
     let all = (1..6).flat_map(|asked| (0..6).map(move |granted| (asked, granted)));
     all.filter(|&(asked, granted)| granted == 0 || granted >= asked)
         .collect()
+}
+
+#[cfg(test)]
+mod tests {
+    use super::*;
+    use crate::gen::accounts::account_of;
+    use crate::gen::cases::case_a;
+    use crate::gen::draft::bytes;
+
+    /// What is impossible about a sheet that names rule 46 for category 1.
+    fn naming_46(inputs: Inputs) -> Vec<String> {
+        let call = Call {
+            inputs,
+            room: 32,
+            fill: 0,
+        };
+        let mut buffer = call.buffer();
+        buffer[..32].fill(0);
+        buffer[4] = 46;
+        let mut coverage = Coverage::default();
+        coverage.note(&call, 0, &buffer);
+        coverage.impossible_met()
+    }
+
+    #[test]
+    fn rule_46_is_met_by_accounts_and_by_no_train() {
+        let draft = case_a();
+        let order = draft.order.write().to_vec();
+        let train = Inputs::Train {
+            vehicles: draft.vehicles(),
+            order: order.clone(),
+        };
+        assert_eq!(naming_46(train), ["trains: category 1 rule 46"]);
+        let account = Inputs::Engines {
+            engines: bytes(&draft.working),
+            hauled: account_of(&draft.hauled).to_vec(),
+            order,
+        };
+        assert!(naming_46(account).is_empty());
+    }
 }

@@ -397,9 +397,10 @@ fn shown(answer: u64) -> String {
 mod tests {
     use super::*;
     use crate::call::{Function, FUNCTIONS};
-    use crate::category::{Category, CATEGORIES};
+    use crate::category::{begun_20_m, Category, CATEGORIES};
     use crate::facts::Facts;
     use crate::gen::numbers::{LEAST, PAST};
+    use crate::lengths::{done, shown_by_function, Reading};
     use crate::route::{sections, speed_on, speeds};
     use crate::vehicle::{digits, is_number, is_working, Vehicle};
 
@@ -428,6 +429,9 @@ mod tests {
         NumberWithoutZeros,
         NumberByItsTail,
         NumberTakesZero,
+        Length(Function, Reading),
+        LengthNotJoined,
+        DeductionNotHeld,
     }
 
     impl Slip {
@@ -440,7 +444,7 @@ mod tests {
                         figure[2..].fill(0);
                     }
                 }
-                Slip::TakesUnusedBytes if taken.len() == ACCOUNT => taken[69..].fill(0),
+                Slip::TakesUnusedBytes if taken.len() == ACCOUNT => taken[73..].fill(0),
                 Slip::TakesLonger => taken.truncate(ACCOUNT),
                 _ => {}
             }
@@ -491,6 +495,39 @@ mod tests {
             numbered
         }
 
+        /// A done call as one with this slip reads the length that k counts.
+        fn misread(self, answer: u64, inputs: Inputs, room: &mut [u8]) -> u64 {
+            let call = Call {
+                inputs,
+                room: 0,
+                fill: 0,
+            };
+            let Slip::Length(function, reading) = self else {
+                return answer;
+            };
+            if function != call.function() || !function.is_done(answer) {
+                return answer;
+            }
+            let facts = call.inputs.facts().expect("a done call has facts");
+            let Some(facts) = reading.misread(&call.inputs, &facts) else {
+                return answer;
+            };
+            let (answer, bytes) = done(&call.inputs, &facts).expect("a done call has its orders");
+            room[..bytes.len()].copy_from_slice(&bytes);
+            answer
+        }
+
+        /// The braked mass of a sheet with k not held at 10.
+        fn not_held(inputs: &Inputs, sheet: &mut [u8]) {
+            let facts = inputs.facts().expect("a done call has facts");
+            let begun = begun_20_m(facts.hauled_length_v);
+            if sheet[0] <= 3 && begun > 10 {
+                let sum = 4 * i64::from(facts.braked_v) + 3 * i64::from(facts.braked_m);
+                let braked = sum * (100 - begun) / 400;
+                sheet[24..28].copy_from_slice(&(braked as u32).to_le_bytes());
+            }
+        }
+
         /// A done route as one with this slip chooses its category.
         fn chosen(self, vehicles: &[u8], orders: &[u8], room: &mut [u8]) -> u64 {
             let records = vehicles.as_chunks().0;
@@ -534,14 +571,20 @@ mod tests {
                 Slip::WritesWhenRefused if answer == 14 => room[31] = 0,
                 _ => {}
             }
-            answer
+            let order = order.to_vec();
+            self.misread(answer, Inputs::Train { vehicles, order }, room)
         }
 
         fn account_of(&self, portion: &[u8], room: &mut [u8]) -> u64 {
             let portion = self.numbered(Function::AccountOf, portion);
             let answer = Model.account_of(&portion, room);
-            if *self == Slip::WritesBehind && answer == 0 && room.len() > ACCOUNT {
-                room[ACCOUNT] = 0;
+            match self {
+                Slip::WritesBehind if answer == 0 && room.len() > ACCOUNT => room[ACCOUNT] = 0,
+                Slip::Length(Function::AccountOf, reading) if answer == 0 => {
+                    let length = reading.of_records(portion.as_chunks().0);
+                    room[69..73].copy_from_slice(&length.to_le_bytes());
+                }
+                _ => {}
             }
             answer
         }
@@ -551,6 +594,9 @@ mod tests {
             if *self == Slip::LongestByTheGreater && answer == 0 {
                 // Byte 52 holds the whole of a longest run.
                 room[52] = left[52].max(right[52]);
+            }
+            if *self == Slip::LengthNotJoined && answer == 0 {
+                room[69..73].copy_from_slice(&left[69..73]);
             }
             answer
         }
@@ -563,7 +609,17 @@ mod tests {
             room: &mut [u8],
         ) -> u64 {
             let engines = self.numbered(Function::SheetOfAccount, engines);
-            Model.sheet_of_account(&engines, &self.taken(hauled), order, room)
+            let hauled = self.taken(hauled);
+            let answer = Model.sheet_of_account(&engines, &hauled, order, room);
+            let inputs = Inputs::Engines {
+                engines,
+                hauled,
+                order: order.to_vec(),
+            };
+            if *self == Slip::DeductionNotHeld && answer == 0 {
+                Slip::not_held(&inputs, room);
+            }
+            self.misread(answer, inputs, room)
         }
 
         fn holds_the_speed(&self, front: &[u8], back: &[u8], room: &mut [u8]) -> usize {
@@ -591,7 +647,11 @@ mod tests {
                 Slip::RouteWritesWhenRefused if number == 12 => room[0] ^= 1,
                 _ => {}
             }
-            answer
+            let inputs = Inputs::TrainRoute {
+                vehicles: vehicles.to_vec(),
+                orders: orders.to_vec(),
+            };
+            self.misread(answer, inputs, room)
         }
 
         fn route_of_account(
@@ -602,22 +662,29 @@ mod tests {
             room: &mut [u8],
         ) -> u64 {
             let engines = self.numbered(Function::RouteOfAccount, engines);
-            Model.route_of_account(&engines, &self.taken(hauled), orders, room)
+            let hauled = self.taken(hauled);
+            let answer = Model.route_of_account(&engines, &hauled, orders, room);
+            let inputs = Inputs::AccountRoute {
+                engines,
+                hauled,
+                orders: orders.to_vec(),
+            };
+            self.misread(answer, inputs, room)
         }
     }
 
     fn differences(slip: Slip) -> u64 {
-        differences_in(slip, 3_000, 44)
+        differences_in(slip, [3_000, 3_000, 3_000, 44])
     }
 
-    /// Over so many trains, joins and routes each, and so many vehicle numbers; 22 of these have every seat.
-    fn differences_in(slip: Slip, cases: u64, numbers: u64) -> u64 {
+    /// Over so many trains, joins, routes and vehicle numbers; 22 of these have every seat.
+    fn differences_in(slip: Slip, [trains, joins, routes, numbers]: [u64; 4]) -> u64 {
         let run = Run {
             library: &slip,
             seed: 3,
             done: &AtomicU64::new(0),
         };
-        let report = run.cases(0..cases, 0..cases, 0..cases, 0..numbers);
+        let report = run.cases(0..trains, 0..joins, 0..routes, 0..numbers);
         report.differences
     }
 
@@ -651,7 +718,7 @@ mod tests {
 
     #[test]
     fn slips_of_numbers_are_found() {
-        let found = |slip: Slip| differences_in(slip, 0, 22) > 0;
+        let found = |slip: Slip| differences_in(slip, [0, 0, 0, 22]) > 0;
         assert!(found(Slip::NumberDoublesEven));
         assert!(found(Slip::NumberAddsNoDigits));
         assert!(found(Slip::NumberWithoutZeros));
@@ -661,5 +728,21 @@ mod tests {
             let name = function.name();
             assert!(found(Slip::NumberUnchecked(function)), "{name}");
         }
+    }
+
+    /// Each wrong reading of the length in each function that can show it.
+    #[test]
+    fn slips_of_lengths_are_found() {
+        for (function, reading) in shown_by_function() {
+            // A route shows no braked mass: the reading has to change its category.
+            let cases = match function {
+                Function::RouteOfTrain | Function::RouteOfAccount => [0, 0, 20_000, 0],
+                _ => [3_000, 3_000, 0, 0],
+            };
+            let found = differences_in(Slip::Length(function, reading), cases) > 0;
+            assert!(found, "{} {reading:?}", function.name());
+        }
+        assert!(differences(Slip::LengthNotJoined) > 0);
+        assert!(differences(Slip::DeductionNotHeld) > 0);
     }
 }

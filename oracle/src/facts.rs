@@ -10,6 +10,8 @@ pub struct Facts {
     pub hauled_mass: u32,
     pub train_mass: u32,
     pub hauled_length: u32,
+    /// Of hauled records set to V: k and rule 46 read it.
+    pub hauled_length_v: u32,
     pub train_length: u32,
     pub axles: u32,
     pub axles_v: u32,
@@ -37,6 +39,7 @@ impl Facts {
         hauled_mass: 0,
         train_mass: 0,
         hauled_length: 0,
+        hauled_length_v: 0,
         train_length: 0,
         axles: 0,
         axles_v: 0,
@@ -69,6 +72,9 @@ impl Facts {
             facts.add(&vehicle);
             facts.hauled_mass += u32::from(vehicle.mass);
             facts.hauled_length += u32::from(vehicle.length);
+            if vehicle.setting == SET_TO_V {
+                facts.hauled_length_v += u32::from(vehicle.length);
+            }
             if vehicle.kind == HAULED_ENGINE {
                 facts.engines += 1;
                 facts.engine_behind_wagon |= wagon_before;
@@ -95,6 +101,7 @@ impl Facts {
             hauled_mass: hauled.mass,
             train_mass: engines.train_mass + hauled.mass,
             hauled_length: hauled.length,
+            hauled_length_v: hauled.length_v,
             train_length: engines.train_length + hauled.length,
             axles: engines.axles + hauled.axles,
             axles_v: engines.axles_v + hauled.axles_v,

@@ -10,6 +10,7 @@ pub mod coverage;
 pub mod diff;
 pub mod facts;
 pub mod gen;
+pub mod lengths;
 pub mod line;
 pub mod numbers;
 pub mod offered;

@@ -186,7 +186,7 @@ pub struct Routes {
 }
 
 impl Routes {
-    pub fn note(&mut self, call: &Call, refusals: &[u8], facts: impl Fn() -> Option<Facts>) {
+    pub fn note(&mut self, call: &Call, refusals: &[u8], facts: Option<&Facts>) {
         let (Inputs::TrainRoute { orders, .. } | Inputs::AccountRoute { orders, .. }) =
             &call.inputs
         else {
@@ -203,9 +203,9 @@ impl Routes {
             }
             _ => {}
         }
-        if let ([], Some(facts)) = (refusals, facts()) {
+        if let ([], Some(facts)) = (refusals, facts) {
             let sections: Vec<Order> = records.iter().filter_map(|one| Order::read(one)).collect();
-            self.note_done(&facts, &sections);
+            self.note_done(facts, &sections);
         }
     }
 

@@ -45,7 +45,7 @@ fn p_rule(facts: &Facts) -> u8 {
         (42, mass > 8_000 && facts.worker_not_in_m),
         (43, mass > 12_000 && facts.v_in_first_five),
         (44, mass > 12_000 && facts.m_after_fifth),
-        (46, begun_20_m(facts.hauled_length) > 10),
+        (46, begun_20_m(facts.hauled_length_v) > 10),
     ])
 }
 

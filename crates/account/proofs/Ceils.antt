@@ -1,5 +1,5 @@
 -- The ceilings: the test and the statement; and that at most 200 good hauled records are within them. Assumes nothing.
-use Prim.Native.Nat.{ℕ, zero, suc, _≤_, _<_}
+use Prim.Native.Nat.{ℕ, _≤_, _<_}
 use native.Mathlib.Omega.{arith}
 use mathlib.Core.Path.{_≡_, refl, ap, ap₂, _∙_}
 use mathlib.Core.Bool.{Bool, true, _&&_, cond}
@@ -15,7 +15,7 @@ use Rattle.account.specs.Accounts.{accountOf}
 use Rattle.account.specs.Ceilings.{Figure, _upTo_, figures, within, Within}
 use Rattle.account.specs.Groupings.{GoodHauled, Portion}
 use Rattle.account.specs.declared.Account.{Account}
-use Rattle.record.proofs.Lists.{every-left, every-right}
+use Rattle.record.proofs.Lists.{every-left, every-right, every-at}
 use Rattle.record.proofs.Figures.{sum-le, count-le, cond-le, leading-le, longest-le, least-top, firsts-le}
 
 -- ---- the test and the statement, over any table of figures
@@ -46,13 +46,8 @@ unfolding within
 test-within a e = all-every (figures a) e
 
 -- the statement at one row of the table
-every-at : (fs : List Figure) → Every Fits fs → (k : ℕ) → Fits (getD fs k (0 upTo 0))
-every-at [] e k = omega arith
-every-at (f ∷ fs) e zero = e .0
-every-at (f ∷ fs) e (suc k) = every-at fs (e .1) k
-
 pub figure-at : (a : Account) → Within a → (k : ℕ) → Fits (getD (figures a) k (0 upTo 0))
-figure-at a w k = every-at (figures a) w k
+figure-at a w k = every-at Fits (0 upTo 0) (omega arith) (figures a) k w
 
 pub chain-within : (a : Account) → chain fits true (figures a) ≡ within a
 unfolding within
@@ -127,6 +122,7 @@ portion-ceilings xs h =
     ⊗ settings-small 2
     ⊗ settings-small 3
     ⊗ settings-small 4
+    ⊗ omega (arith, sum-le GoodHauled (λ v. cond (isV v) (v .length) 0) 1000 (λ v d. cond-le (isV v) (v .length) 1000 (length-le v d)) xs g)
     ⊗ tt
 
 pub portion-left : (xs ys : List Vehicle) → Portion (xs ++ ys) → Portion xs

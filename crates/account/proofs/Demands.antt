@@ -1,16 +1,16 @@
 -- Demand 3, first half, and what else document 01 says of accounts: the theorems, over the definitions of specs/;
 -- `joined-in-code` and `done-in-code` also over the two contracts themselves. Assumes nothing.
-use Prim.Native.Nat.{ℕ, _+_, _%_, _≤_, _<_}
+use Prim.Native.Nat.{ℕ, _%_, _≤_}
 use mathlib.Core.Path.{_≡_, refl, sym, ap, _∙_}
 use mathlib.Core.Logic.{_⊎_}
-use mathlib.Core.Bool.{Bool, true, false, _&&_, cond}
+use mathlib.Core.Bool.{Bool, true, false, cond}
 use mathlib.Core.List.{List, [], _∷_, _++_, map, append-nil}
 use borrow.Author.Tests.{eqb-true}
 use lib.ListN.{length, getD}
-use Rattle.record.specs.Words.{_is_, all, leading, Every, Case, caseAt, First}
+use Rattle.record.specs.Words.{all, leading, Every, Case, caseAt, First}
 use Rattle.record.specs.Figures.{some}
 use Rattle.record.specs.Records.{recordCount, records, recordsOf, isWhole}
-use Rattle.record.specs.Vehicles.{good, vehicle, vehicles, firstBad, foundNumber, foundPlace, isWorking}
+use Rattle.record.specs.Vehicles.{good, vehicle, vehicles, firstBad, foundNumber, foundPlace, isWorking, isV}
 use Rattle.record.specs.declared.vehicle.Vehicle.{Vehicle}
 use Rattle.record.proofs.Cases.{first-applies, none-applies, first-or-none}
 use Rattle.record.proofs.Demands.{found-number, found-place}
@@ -20,7 +20,6 @@ use Rattle.account.specs.Joining.{joining}
 use Rattle.account.specs.Answers.{numberOf, placeOf, firstThatApplies, doneWith, refusedBy}
 use Rattle.account.specs.Portions.{portionRefusals, engineOrBad, accounted, joinRefusals, joined}
 use Rattle.account.specs.Groupings.{Hauled, GoodHauled, Portion, GoodPortion, Grouping, uncut, joinedVehicles, joinedBytes, BetweenRecords, NoneRefused}
-use Rattle.account.specs.Speed.{firstWith, wholeGood, slowestOf, holdsTheSpeed, Holds}
 use Rattle.account.specs.declared.Account.{Account}
 use Rattle.account.specs.declared.Accounted.{Accounted}
 use Rattle.account.specs.declared.Answer.{Answer}
@@ -34,7 +33,6 @@ use Rattle.account.proofs.Portions.{answer-3}
 use Rattle.account.proofs.Bytes as bytes
 use Rattle.account.proofs.Bytes.{done-sound, sound-done, sound-good, good-sound, bytes-grouped, bytes-done, grouping-done}
 use Rattle.account.proofs.Runs.{Ran, ran-joined}
-use Rattle.account.proofs.Speeds.{holds-is, two-hold, two-24, speed-bad, speed-many}
 
 -- ---- answers
 -- the numbers and the places of the refusals, in document 01's order
@@ -158,33 +156,15 @@ joined-in-code g r ran cut done = ran-joined ran ∙ bytes-grouped g cut done
 pub done-in-code : (g : Grouping ℕ) (r : Accounted) → Ran g r → BetweenRecords g → GoodPortion (uncut g) → r ≡ doneWith (accountOf (vehicles (uncut g)))
 done-in-code g r ran cut good = ran-joined ran ∙ grouping-done g cut good .1
 
+-- the length set to V is at most the whole, of every list
+pub v-length-most : (hauled : List Vehicle) → accountOf hauled .vlength ≤ accountOf hauled .length
+v-length-most = joins.v-length-le
+
+-- and vehicles of which none is set to V, put in anywhere, leave it as it was
+pub v-length-kept : (front others back : List Vehicle) → some isV others ≡ false → accountOf (front ++ (others ++ back)) .vlength ≡ accountOf (front ++ back) .vlength
+v-length-kept = joins.v-length-kept
+
 -- exchanging two neighbours leaves every sum as it was
 pub exchange-keeps-sums : (front back : List Vehicle) (v w : Vehicle)
     → sums (accountOf (front ++ (v ∷ w ∷ back))) ≡ sums (accountOf (front ++ (w ∷ v ∷ back)))
 exchange-keeps-sums = exchanged
-
--- ---- the vehicle that holds the speed
--- it is a record of the two portions, least, and first at a tie
-pub holds-the-speed : (front back : List ℕ) → (wholeGood front && wholeGood back) ≡ true → 0 < recordCount front + recordCount back → recordCount front + recordCount back ≤ 200
-    → Holds (recordsOf front ++ recordsOf back) (holdsTheSpeed front back)
-holds-the-speed = two-hold
-
--- and no other record does
-pub no-other-holds : (rs : List (List ℕ)) (r : List ℕ) → Holds rs r → slowestOf rs ≡ r
-no-other-holds = holds-is
-
--- an empty part where both are empty, where a portion is not whole good records, and where they pass 200 together
-pub empty-of-none : holdsTheSpeed [] [] ≡ []
-unfolding holdsTheSpeed wholeGood slowestOf firstWith all records
-empty-of-none = refl
-
-pub empty-of-bad : (front back : List ℕ) → (wholeGood front && wholeGood back) ≡ false → holdsTheSpeed front back ≡ []
-empty-of-bad front back e = sym (speed-bad front back e)
-
-pub empty-of-many : (front back : List ℕ) → 200 < recordCount front + recordCount back → holdsTheSpeed front back ≡ []
-empty-of-many front back h = sym (speed-many front back h)
-
--- else a record's 24 bytes
-pub else-24 : (front back : List ℕ) → (wholeGood front && wholeGood back) ≡ true → 0 < recordCount front + recordCount back → recordCount front + recordCount back ≤ 200
-    → length (holdsTheSpeed front back) ≡ 24
-else-24 = two-24

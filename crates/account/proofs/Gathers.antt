@@ -8,7 +8,8 @@ use mathlib.Core.Bool.{Bool, true, false, not, _&&_, _||_, cond, or-false}
 use mathlib.Core.List.{List, [], _∷_, _++_, map, reverse}
 use borrow.Author.Tests.{le-ltb, lt-ltb}
 use lib.Dec.{eqb, ltb, leb·suc-suc}
-use lib.ListN.{length, getD, set, take, drop, length-reverse}
+use lib.ListN.{length, getD, set, take, drop, length-reverse, List·getD-append}
+use lib.Seq.{set-append-left}
 use Rattle.record.specs.Words.{leading, Every}
 use Rattle.record.specs.Records.{records}
 use Rattle.record.specs.Vehicles.{good, vehicle, reading, isWagon, isHauledEngine, isIsolated, isJoined, hasMatrossow, hasDLoad}
@@ -18,9 +19,9 @@ use Rattle.record.proofs.Records.{recordAt}
 use Rattle.record.proofs.Vehicles.{length-vehicles, vehicles-snoc}
 use Rattle.record.specs.Figures.{sum, count, some, trailing, longest, behind, least}
 use Rattle.account.specs.Groupings.{Hauled, GoodHauled}
-use Rattle.account.specs.Gathering.{runningOf, withOne, Room, setTo, bySetting, Gathered}
+use Rattle.account.specs.Gathering.{runningOf, withOne, Room, setTo, bySetting, summed, summedOf, tableOf, addedFrom, RoomFrom, Gathered}
 use Rattle.account.specs.declared.gather.Running.{Running}
-use Rattle.record.proofs.Lists.{every-append}
+use Rattle.record.proofs.Lists.{every-append, every-map, every-at, every-set}
 use Rattle.record.proofs.Figures.{some-append, trailing-append, longest-append, least-append, least-top, sum-le, count-le, cond-le, leading-le, some-count, sum-one, count-one, trailing-longest, firsts-one, firsts-length}
 use Rattle.account.proofs.Ceils.{mass-le, vmass-le, mmass-le, length-le, axles-le, setting-le, joined-le, dload-le}
 use Rattle.account.proofs.Portions.{read-good}
@@ -63,7 +64,7 @@ place-step (suc (suc (suc zero))) h a b c d y = λ i. sym (add-zero a) i ∷ sym
 place-step (suc (suc (suc (suc s)))) h a b c d y = absurd (omega arith)
 
 -- ---- one vehicle more
-pub running-more : (xs : List Vehicle) (v : Vehicle) → GoodHauled v → runningOf (xs ++ (v ∷ [])) ≡ withOne (runningOf xs) v
+running-more : (xs : List Vehicle) (v : Vehicle) → GoodHauled v → runningOf (xs ++ (v ∷ [])) ≡ withOne (runningOf xs) v
 unfolding runningOf withOne
 running-more xs v g =
     λ i.
@@ -87,8 +88,12 @@ running-more xs v g =
     slower : least 200 (λ (v : Vehicle). v .speed) (xs ++ (v ∷ [])) ≡ min (least 200 (λ (v : Vehicle). v .speed) xs) (v .speed)
     slower = omega (arith, least-append 200 (λ (v : Vehicle). v .speed) xs (v ∷ []), least-top 200 (λ (v : Vehicle). v .speed) xs)
 
+-- what is summed of a good hauled vehicle is at most 2,500
+abbrev Small : (Vehicle → ℕ) → Type 0
+Small f = (v : Vehicle) → GoodHauled v → f v ≤ 2500
+
 module _ (f : Vehicle → ℕ) (xs : List Vehicle) where
-  pub by-more : (v : Vehicle) → GoodHauled v → set (bySetting f xs) (v .setting) (getD (bySetting f xs) (v .setting) 0 + f v) ≡ bySetting f (xs ++ (v ∷ []))
+  by-more : (v : Vehicle) → GoodHauled v → set (bySetting f xs) (v .setting) (getD (bySetting f xs) (v .setting) 0 + f v) ≡ bySetting f (xs ++ (v ∷ []))
   by-more v g =
       place-step (v .setting) (setting-le v g) _ _ _ _ (f v)
       ∙ (λ i. sym (sum-one (setTo 0 f) xs v) i
@@ -97,19 +102,59 @@ module _ (f : Vehicle → ℕ) (xs : List Vehicle) where
       ∷ sym (sum-one (setTo 3 f) xs v) i
       ∷ [])
 
-  module _ (small : (v : Vehicle) → GoodHauled v → f v ≤ 2500) (each : Every GoodHauled xs) where
-    part-le : (k : ℕ) → sum (setTo k f) xs ≤ 2500 * length xs
-    part-le k = sum-le GoodHauled (setTo k f) 2500 (λ v d. cond-le (eqb (v .setting) k) (f v) 2500 (small v d)) xs each
+  -- the four sums of f are small where f is
+  by-small : Small f → Every GoodHauled xs → Every (λ x. x ≤ 2500 * length xs) (bySetting f xs)
+  by-small small each =
+      let part : (k : ℕ) → sum (setTo k f) xs ≤ 2500 * length xs = λ k. sum-le GoodHauled (setTo k f) 2500 (λ v d. cond-le (eqb (v .setting) k) (f v) 2500 (small v d)) xs each in
+      (part 0, (part 1, (part 2, (part 3, tt))))
 
-    by-le : (k : ℕ) → getD (bySetting f xs) k 0 ≤ 2500 * length xs
-    by-le zero = part-le 0
-    by-le (suc zero) = part-le 1
-    by-le (suc (suc zero)) = part-le 2
-    by-le (suc (suc (suc zero))) = part-le 3
-    by-le (suc (suc (suc (suc k)))) = omega arith
+summed-small : Every Small summed
+summed-small = ((λ v d. omega arith), (vmass-le, (mmass-le, ((λ v d. omega (arith, axles-le v d)), ((λ v d. omega (arith, length-le v d)), tt)))))
 
-    by-room : (v : Vehicle) → GoodHauled v → length xs ≤ 200 → (v .setting < 4) × (getD (bySetting f xs) (v .setting) 0 + f v < 2 ^ 32)
-    by-room v g h = (omega (arith, setting-le v g), omega (arith, by-le (v .setting), small v g))
+-- ---- the sums of all that is summed by setting
+-- additions behind the first four leave those as they are
+behind-four : (ys : List ℕ) (at : ℕ) (a b c d : ℕ) (sums : List ℕ) → addedFrom (suc (suc (suc (suc at)))) ys (a ∷ b ∷ c ∷ d ∷ sums) ≡ a ∷ b ∷ c ∷ d ∷ addedFrom at ys sums
+behind-four [] at a b c d sums = refl
+behind-four (y ∷ ys) at a b c d sums =
+    let next : suc (suc (suc (suc at))) + 4 ≡ suc (suc (suc (suc (at + 4)))) = omega arith in
+    ap (λ (k : ℕ). addedFrom k ys (a ∷ b ∷ c ∷ d ∷ set sums at (getD sums at 0 + y))) next
+    ∙ behind-four ys (at + 4) a b c d (set sums at (getD sums at 0 + y))
+
+-- one vehicle more
+table-more : (fs : List (Vehicle → ℕ)) (xs : List Vehicle) (v : Vehicle) → GoodHauled v → addedFrom (v .setting) (map (λ f. f v) fs) (tableOf fs xs) ≡ tableOf fs (xs ++ (v ∷ []))
+table-more [] xs v g = refl
+table-more (f ∷ fs) xs v g =
+    let s = v .setting in
+    let row = bySetting f xs in
+    let few : s < length row = omega (arith, setting-le v g) in
+    let next : s + 4 ≡ suc (suc (suc (suc s))) = omega arith in
+    ap (addedFrom (s + 4) (map (λ f. f v) fs))
+    (ap (λ (x : ℕ). set (row ++ tableOf fs xs) s (x + f v)) (List·getD-append row (tableOf fs xs) 0 s few)
+    ∙ set-append-left row (tableOf fs xs) s _ few
+    ∙ ap (λ (l : List ℕ). l ++ tableOf fs xs) (by-more f xs v g))
+    ∙ ap (λ (k : ℕ). addedFrom k (map (λ f. f v) fs) (bySetting f (xs ++ (v ∷ [])) ++ tableOf fs xs)) next
+    ∙ behind-four (map (λ f. f v) fs) s _ _ _ _ (tableOf fs xs)
+    ∙ ap (λ (l : List ℕ). bySetting f (xs ++ (v ∷ [])) ++ l) (table-more fs xs v g)
+
+-- small figures have room beside small sums
+room-from : (n : ℕ) (ys sums : List ℕ) (at : ℕ) → Every (λ y. y ≤ 2500) ys → Every (λ x. x ≤ n) sums → n + 2500 * length ys < 2 ^ 32 → RoomFrom at ys sums
+room-from n [] sums at small e h = tt
+room-from n (y ∷ ys) sums at small e h =
+    let x = getD sums at 0 + y in
+    let le : x ≤ n + 2500 = omega (arith, every-at (λ x. x ≤ n) 0 (omega arith) sums at e, small .0) in
+    (omega arith, room-from (n + 2500) ys (set sums at x) (at + 4) (small .1) (every-set (λ x. x ≤ n + 2500) sums at x (every-map (λ y. y ≤ n) (λ y. y ≤ n + 2500) (λ y d. omega arith) sums e) le) (omega arith))
+
+table-small : (fs : List (Vehicle → ℕ)) → Every Small fs → (xs : List Vehicle) → Every GoodHauled xs → Every (λ x. x ≤ 2500 * length xs) (tableOf fs xs)
+table-small [] small xs each = tt
+table-small (f ∷ fs) small xs each = every-append (λ x. x ≤ 2500 * length xs) (bySetting f xs) (tableOf fs xs) (by-small f xs (small .0) each) (table-small fs (small .1) xs each)
+
+figures-small : (fs : List (Vehicle → ℕ)) → Every Small fs → (v : Vehicle) → GoodHauled v → Every (λ y. y ≤ 2500) (map (λ f. f v) fs)
+figures-small [] small v g = tt
+figures-small (f ∷ fs) small v g = (small .0 v g, figures-small fs (small .1) v g)
+
+table-room : (xs : List Vehicle) → Every GoodHauled xs → length xs ≤ 200 → (v : Vehicle) → GoodHauled v → (v .setting < 4) × RoomFrom (v .setting) (summedOf v) (tableOf summed xs)
+table-room xs each few v g =
+    (omega (arith, setting-le v g), room-from (2500 * length xs) (summedOf v) (tableOf summed xs) (v .setting) (figures-small summed summed-small v g) (table-small summed summed-small xs each) (omega arith))
 
 running-room : (xs : List Vehicle) → Every GoodHauled xs → length xs ≤ 200 → (v : Vehicle) → GoodHauled v → Room (runningOf xs) v
 unfolding runningOf
@@ -132,50 +177,34 @@ module _ (bs : List ℕ) (i : ℕ) where
       ∙ sym (vehicles-snoc i bs)
       ∙ ap (λ (n : ℕ). map vehicle (records n bs)) (sym (add-one i))
 
-  pub gathered-more : (v : Vehicle) → v ≡ vehicle (recordAt bs i) → GoodHauled v → (a a' : Running) (c c' vs vs' ms ms' axs axs' first first' : List ℕ)
-      → Gathered (map vehicle (records i bs)) a c vs ms axs first
-      → c' ≡ set c (v .setting) (getD c (v .setting) 0 + 1)
-      → vs' ≡ set vs (v .setting) (getD vs (v .setting) 0 + v .vmass)
-      → ms' ≡ set ms (v .setting) (getD ms (v .setting) 0 + v .mmass)
-      → axs' ≡ set axs (v .setting) (getD axs (v .setting) 0 + v .axles)
+  pub gathered-more : (v : Vehicle) → v ≡ vehicle (recordAt bs i) → GoodHauled v → (a a' : Running) (sums sums' first first' : List ℕ)
+      → Gathered (map vehicle (records i bs)) a sums first
+      → sums' ≡ addedFrom (v .setting) (summedOf v) sums
       → first' ≡ set first i (v .setting)
       → a' ≡ withOne a v
-      → Gathered (map vehicle (records (i + 1) bs)) a' c' vs' ms' axs' first'
-  gathered-more v e g a a' c c' vs vs' ms ms' axs axs' first first' h ec ev em ea ef er =
+      → Gathered (map vehicle (records (i + 1) bs)) a' sums' first'
+  gathered-more v e g a a' sums sums' first first' h es ef er =
       let xs = map vehicle (records i bs) in
-      let added : (f : Vehicle → ℕ) (l l' : List ℕ) → l ≡ bySetting f xs → l' ≡ set l (v .setting) (getD l (v .setting) 0 + f v) → l' ≡ bySetting f (xs ++ (v ∷ []))
-      = λ f l l' d m. m ∙ ap (λ (k : List ℕ). set k (v .setting) (getD k (v .setting) 0 + f v)) d ∙ by-more f xs v g in
-      subst (λ (zs : List Vehicle). Gathered zs a' c' vs' ms' axs' first') (vehicles-more v e)
+      subst (λ (zs : List Vehicle). Gathered zs a' sums' first') (vehicles-more v e)
       (record {
         each = every-append GoodHauled xs (v ∷ []) (h .each) (g, tt);
         running = er ∙ ap (λ (b : Running). withOne b v) (h .running) ∙ sym (running-more xs v g);
-        count = added (λ v. 1) c c' (h .count) ec;
-        vmass = added (λ v. v .vmass) vs vs' (h .vmass) ev;
-        mmass = added (λ v. v .mmass) ms ms' (h .mmass) em;
-        vaxles = added (λ v. v .axles) axs axs' (h .vaxles) ea;
+        table = es ∙ ap (addedFrom (v .setting) (summedOf v)) (h .table) ∙ table-more summed xs v g;
         five = ef ∙ ap₂ (λ (l : List ℕ) (k : ℕ). set l k (v .setting)) (h .five) (sym (length-vehicles i bs)) ∙ firsts-one 5 4 (λ (v : Vehicle). v .setting) xs v;
       })
 
--- a figure by setting has room for one record more
-by-fits : (f : Vehicle → ℕ) → ((v : Vehicle) → GoodHauled v → f v ≤ 2500) → (xs : List Vehicle) (l : List ℕ) → l ≡ bySetting f xs → Every GoodHauled xs
-    → (v : Vehicle) → GoodHauled v → length xs ≤ 200 → (v .setting < 4) × (getD l (v .setting) 0 + f v < 2 ^ 32)
-by-fits f small xs l e each v g few = rw e (by-room f xs small each v g few)
-
 -- what a turn knows of the record at i that was read as v, no working engine, and asks of what was gathered before it
-pub record Turn (bs : List ℕ) (i : ℕ) (v : Vehicle) (a : Running) (c vs ms axs first : List ℕ) : Type 0 where
+pub record Turn (bs : List ℕ) (i : ℕ) (v : Vehicle) (a : Running) (sums first : List ℕ) : Type 0 where
   pub fine : good (recordAt bs i) ≡ true
   pub says : v ≡ vehicle (recordAt bs i)
   pub hauled : GoodHauled v
-  pub count : (v .setting < 4) × (getD c (v .setting) 0 + 1 < 2 ^ 32)
-  pub vmass : (v .setting < 4) × (getD vs (v .setting) 0 + v .vmass < 2 ^ 32)
-  pub mmass : (v .setting < 4) × (getD ms (v .setting) 0 + v .mmass < 2 ^ 32)
-  pub vaxles : (v .setting < 4) × (getD axs (v .setting) 0 + v .axles < 2 ^ 32)
+  pub table : (v .setting < 4) × RoomFrom (v .setting) (summedOf v) sums
   pub five : length first ≡ 5
   pub room : Room a v
 
 pub turn : (bs : List ℕ) (i : ℕ) (v : Vehicle) → Good v ≡ reading (take (24 * i + 24 - 24 * i) (drop (24 * i) bs)) → (v .kind ≡ 2 → ⊥) → i ≤ 200
-    → (a : Running) (c vs ms axs first : List ℕ) → Gathered (map vehicle (records i bs)) a c vs ms axs first → Turn bs i v a c vs ms axs first
-turn bs i v e w h a c vs ms axs first g =
+    → (a : Running) (sums first : List ℕ) → Gathered (map vehicle (records i bs)) a sums first → Turn bs i v a sums first
+turn bs i v e w h a sums first g =
     let xs = map vehicle (records i bs) in
     let r = read-good bs i v e w in
     let few : length xs ≤ 200 = omega (arith, length-vehicles i bs) in
@@ -183,10 +212,7 @@ turn bs i v e w h a c vs ms axs first g =
       fine = r .0;
       says = r .1;
       hauled = r .2;
-      count = by-fits (λ v. 1) (λ v d. omega arith) xs c (g .count) (g .each) v (r .2) few;
-      vmass = by-fits (λ v. v .vmass) vmass-le xs vs (g .vmass) (g .each) v (r .2) few;
-      mmass = by-fits (λ v. v .mmass) mmass-le xs ms (g .mmass) (g .each) v (r .2) few;
-      vaxles = by-fits (λ v. v .axles) (λ v d. omega (arith, axles-le v d)) xs axs (g .vaxles) (g .each) v (r .2) few;
+      table = subst (λ (l : List ℕ). (v .setting < 4) × RoomFrom (v .setting) (summedOf v) l) (sym (g .table)) (table-room xs (g .each) few v (r .2));
       five = ap length (g .five) ∙ firsts-length 5 4 (λ (v : Vehicle). v .setting) xs;
       room = subst (λ (b : Running). Room b v) (sym (g .running)) (running-room xs (g .each) few v (r .2));
     }

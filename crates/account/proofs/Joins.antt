@@ -1,4 +1,4 @@
--- The account of a list that is cut is its portions' accounts, joined, in every grouping. Assumes nothing.
+-- The account of a list that is cut is its portions' accounts, joined, in every grouping; sums of exchanged neighbours; the length set to V. Assumes nothing.
 use Prim.Native.Nat.{ℕ, zero, suc, _≤_}
 use native.Mathlib.Omega.{arith}
 use mathlib.Core.Path.{_≡_, refl, sym, ap, ap₂, _∙_}
@@ -9,7 +9,7 @@ use lib.ListN.{length, length-append}
 use Rattle.record.specs.Words.{Every, leading}
 use Rattle.record.specs.Vehicles.{isWagon, isHauledEngine, isIsolated, isM, isV, isR, isJoined, hasMatrossow, hasDLoad}
 use Rattle.record.specs.declared.vehicle.Vehicle.{Vehicle}
-use Rattle.record.specs.Figures.{sum, count, longest, behind}
+use Rattle.record.specs.Figures.{sum, count, some, longest, behind}
 use Rattle.account.specs.Accounts.{accountOf, sums}
 use Rattle.account.specs.Ceilings.{within}
 use Rattle.account.specs.Joining.{joining}
@@ -19,8 +19,8 @@ use Rattle.account.specs.Groupings.{Hauled, GoodHauled, Portion, Groupin
 use Rattle.account.specs.declared.Account.{Account}
 use Rattle.account.specs.declared.Accounted.{Accounted}
 use Rattle.account.specs.declared.Answer.the-variants.{TooMany, AboveCeiling}
-use Rattle.record.proofs.Lists.{every-map}
-use Rattle.record.proofs.Figures.{sum-append, count-append, some-append, leading-append, trailing-append, longest-append, behind-append, some-count, some-same, lack-count, least-append, firsts-append, sum-exchange, length-exchange}
+use Rattle.record.proofs.Lists.{neither, every-map}
+use Rattle.record.proofs.Figures.{sum-append, count-append, some-append, leading-append, trailing-append, longest-append, behind-append, some-count, some-same, lack-count, least-append, firsts-append, sum-exchange, length-exchange, sum-less, cond-le}
 use Rattle.account.proofs.Ceils.{within-test, portion-ceilings, portion-left, portion-right}
 
 -- of a hauled vehicle, what is no hauled engine is a wagon
@@ -64,6 +64,7 @@ account-append xs ys h =
       rule18 = some-append (λ v. isWagon v && hasMatrossow v && not (isIsolated v)) xs ys i;
       slowest = least-append 200 (λ v. v .speed) xs ys i;
       first = firsts-append 5 4 (λ v. v .setting) xs ys i;
+      vlength = sum-append (λ v. cond (isV v) (v .length) 0) xs ys i;
     }
 
 pub each-hauled : (xs : List Vehicle) → Every GoodHauled xs → Every Hauled xs
@@ -122,4 +123,21 @@ exchanged xs ys a b =
     ∷ same (λ v. cond (isM v) 1 0) i
     ∷ same (λ v. cond (isIsolated v) 1 0) i
     ∷ same (λ v. cond (hasDLoad v) 1 0) i
+    ∷ same (λ v. cond (isV v) (v .length) 0) i
     ∷ []
+
+-- ---- the length of records set to V
+pub v-length-le : (xs : List Vehicle) → accountOf xs .vlength ≤ accountOf xs .length
+unfolding accountOf
+v-length-le = sum-less (λ v. cond (isV v) (v .length) 0) (λ v. v .length) (λ v. cond-le (isV v) (v .length) (v .length) (omega arith))
+
+none-v : (xs : List Vehicle) → some isV xs ≡ false → accountOf xs .vlength ≡ 0
+unfolding accountOf
+none-v [] e = refl
+none-v (x ∷ xs) e = let n = neither (isV x) (some isV xs) e in rw (n .0, none-v xs (n .1))
+
+pub v-length-kept : (front others back : List Vehicle) → some isV others ≡ false → accountOf (front ++ (others ++ back)) .vlength ≡ accountOf (front ++ back) .vlength
+unfolding accountOf
+v-length-kept front others back e =
+    let f : Vehicle → ℕ = λ v. cond (isV v) (v .length) 0 in
+    omega (arith, sum-append f front (others ++ back), sum-append f others back, sum-append f front back, none-v others e)

@@ -3,7 +3,6 @@ pub mod Joins
 pub mod Portions
 pub mod Gathers
 pub mod Bytes
-pub mod Speeds
 pub mod Unique
 pub mod Runs
 pub mod Demands

@@ -40,6 +40,8 @@ accountOf xs =
       slowest = least 200 (λ v. v .speed) xs;
       -- the settings of the first five, 4 where there is none
       first = firsts 5 4 (λ v. v .setting) xs;
+      -- length of records set to V (request Three)
+      vlength = sum (λ v. cond (isV v) (v .length) 0) xs;
     }
 
 -- the account of no vehicle
@@ -49,4 +51,4 @@ empty = accountOf []
 -- the sums among the figures
 abbrev pub sums : Account → List ℕ
 sums a =
-    a .count ∷ a .mass ∷ a .vmass ∷ a .mmass ∷ a .length ∷ a .axles ∷ a .vaxles ∷ a .engines ∷ a .mset ∷ a .isolated ∷ a .dloads ∷ []
+    a .count ∷ a .mass ∷ a .vmass ∷ a .mmass ∷ a .length ∷ a .axles ∷ a .vaxles ∷ a .engines ∷ a .mset ∷ a .isolated ∷ a .dloads ∷ a .vlength ∷ []

@@ -37,6 +37,8 @@ figures a =
     ∷ getD (a .first) 2 0 upTo 4
     ∷ getD (a .first) 3 0 upTo 4
     ∷ getD (a .first) 4 0 upTo 4
+    -- request Three
+    ∷ a .vlength upTo 200000
     ∷ []
 
 -- no figure is above its ceiling

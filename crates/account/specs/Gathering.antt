@@ -2,7 +2,8 @@
 use Prim.Native.Nat.{ℕ, _+_, _<_, _^_, min, max}
 use mathlib.Core.Path.{_≡_}
 use mathlib.Core.Bool.{not, _&&_, _||_, cond}
-use mathlib.Core.List.{List, [], _∷_}
+use mathlib.Core.List.{List, [], _∷_, _++_, map}
+use lib.ListN.{getD, set}
 use Rattle.record.specs.Words.{_is_, Every}
 use Rattle.record.specs.Vehicles.{isWagon, isHauledEngine, isIsolated, isJoined, hasMatrossow, hasDLoad}
 use Rattle.record.specs.declared.vehicle.Vehicle.{Vehicle}
@@ -59,12 +60,31 @@ setTo k f v = cond (v .setting is k) (f v) 0
 abbrev pub bySetting : (Vehicle → ℕ) → List Vehicle → List ℕ
 bySetting f xs = sum (setTo 0 f) xs ∷ sum (setTo 1 f) xs ∷ sum (setTo 2 f) xs ∷ sum (setTo 3 f) xs ∷ []
 
+-- what is summed by setting: how many, V masses, M masses, axles, lengths
+abbrev pub summed : List (Vehicle → ℕ)
+summed = (λ v. 1) ∷ (λ v. v .vmass) ∷ (λ v. v .mmass) ∷ (λ v. v .axles) ∷ (λ v. v .length) ∷ []
+
+abbrev pub summedOf : Vehicle → List ℕ
+summedOf v = map (λ f. f v) summed
+
+-- the sums of each, one after the other
+abbrev pub tableOf : List (Vehicle → ℕ) → List Vehicle → List ℕ
+tableOf [] xs = []
+tableOf (f ∷ fs) xs = bySetting f xs ++ tableOf fs xs
+
+-- each figure added to a sum: the first to the one at this place, each next one four places on
+abbrev pub addedFrom : ℕ → List ℕ → List ℕ → List ℕ
+addedFrom at [] sums = sums
+addedFrom at (y ∷ ys) sums = addedFrom (at + 4) ys (set sums at (getD sums at 0 + y))
+
+-- what these additions ask for
+abbrev pub RoomFrom : ℕ → List ℕ → List ℕ → Type 0
+RoomFrom at [] sums = Unit
+RoomFrom at (y ∷ ys) sums = (getD sums at 0 + y < 2 ^ 32) × RoomFrom (at + 4) ys (set sums at (getD sums at 0 + y))
+
 -- all that is gathered, of good hauled records
-pub record Gathered (xs : List Vehicle) (a : Running) (counts vs ms vas first : List ℕ) : Type 0 where
+pub record Gathered (xs : List Vehicle) (a : Running) (sums first : List ℕ) : Type 0 where
   pub each : Every GoodHauled xs
   pub running : a ≡ runningOf xs
-  pub count : counts ≡ bySetting (λ v. 1) xs
-  pub vmass : vs ≡ bySetting (λ v. v .vmass) xs
-  pub mmass : ms ≡ bySetting (λ v. v .mmass) xs
-  pub vaxles : vas ≡ bySetting (λ v. v .axles) xs
+  pub table : sums ≡ tableOf summed xs
   pub five : first ≡ firsts 5 4 (λ v. v .setting) xs

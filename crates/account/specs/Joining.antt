@@ -41,4 +41,6 @@ joining left right =
       -- the slower speed stays
       slowest = min (left .slowest) (right .slowest);
       first = fill (left .count) (left .first) (right .first);
+      -- a sum (request Three)
+      vlength = left .vlength + right .vlength;
     }

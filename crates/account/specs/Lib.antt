@@ -5,4 +5,3 @@ pub mod Answers
 pub mod Portions
 pub mod Groupings
 pub mod Gathering
-pub mod Speed

@@ -28,6 +28,7 @@ pub(crate) fn empty_account() -> Account
         rule18: false,
         slowest: 200,
         first: [4; 5],
+        vlength: 0,
     }
 }
 
@@ -56,4 +57,5 @@ pub(crate) fn is_within(a: Account) -> bool
         & (first[2] <= 4)
         & (first[3] <= 4)
         & (first[4] <= 4)
+        & (a.vlength <= 200_000)
 }

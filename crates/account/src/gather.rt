@@ -7,7 +7,7 @@ ghost use lib.ListN.{length, getD, set};
 ghost use Rattle.record.specs.Records.{recordCount};
 ghost use Rattle.record.specs.Vehicles.{vehicles};
 ghost use Rattle.account.specs.Accounts.{accountOf};
-ghost use Rattle.account.specs.Gathering.{Room, Gathered, runningOf, withOne};
+ghost use Rattle.account.specs.Gathering.{Room, RoomFrom, Gathered, runningOf, withOne, summedOf, addedFrom};
 use crate::Account;
 use crate::joining::greater;
 use crate::joining::sum;
@@ -76,12 +76,28 @@ pub(crate) fn with_one(so_far: Running, v: Vehicle) -> Running
     }
 }
 
-// Adds to the figure of a setting: an index in place of four tests.
-pub(crate) fn add_at(figure: &mut [u32; 4], setting: u32, x: u32)
-    requires { ⌜ (setting < 4) × (getD (now figure) setting 0 + x < 2 ^ 32) ⌝ }
-    ensures { λ _. ⌜ now (figure .exit) ≡ set (now (figure .entry)) setting (getD (now (figure .entry)) setting 0 + x) ⌝ }
+// How many sums by setting there are: five figures, four settings each.
+pub(crate) const SUMS: usize = 20;
+
+// Adds to one of the sums.
+fn add_at(sums: &mut [u32; SUMS], at: u32, x: u32)
+    requires { ⌜ (at < 20) × (getD (now sums) at 0 + x < 2 ^ 32) ⌝ }
+    ensures { λ _. ⌜ now (sums .exit) ≡ set (now (sums .entry)) at (getD (now (sums .entry)) at 0 + x) ⌝ }
 {
-    figure[setting as usize] = figure[setting as usize] + x;
+    sums[at as usize] += x;
+}
+
+// Adds a record to the sums of its setting, every fourth: an index in place of four tests.
+pub(crate) fn add_by_setting(sums: &mut [u32; SUMS], v: Vehicle)
+    requires { ⌜ (v .setting < 4) × RoomFrom (v .setting) (summedOf v) (now sums) ⌝ }
+    ensures { λ _. ⌜ now (sums .exit) ≡ addedFrom (v .setting) (summedOf v) (now (sums .entry)) ⌝ }
+{
+    let at = v.setting;
+    add_at(sums, at, 1);
+    add_at(sums, at + 4, v.vmass);
+    add_at(sums, at + 8, v.mmass);
+    add_at(sums, at + 12, v.axles);
+    add_at(sums, at + 16, v.length);
 }
 
 // Sets the setting at place `i`, where it is one of the first five.
@@ -94,18 +110,16 @@ pub(crate) fn set_at(first: &mut [u32; 5], i: usize, setting: u32)
     }
 }
 
-// The account of a portion, out of what was gathered of it. Settings: 0 isolated, 1 M, 2 V, 3 R.
+// The account of a portion, out of what was gathered of it. Sums: count from 0 on, V mass from 4, M mass from 8, axles from 12,
+// length from 16, each of isolated, M, V and R.
 pub(crate) fn account_from(
     portion: &[u8],
     running: Running,
-    counts: [u32; 4],
-    vmasses: [u32; 4],
-    mmasses: [u32; 4],
-    axles: [u32; 4],
+    sums: [u32; SUMS],
     first: [u32; 5],
 ) -> Account
     requires { ⌜ recordCount (now portion) ≤ 200 ⌝ }
-    requires { ⌜ Gathered (vehicles (now portion)) running counts vmasses mmasses axles first ⌝ }
+    requires { ⌜ Gathered (vehicles (now portion)) running sums first ⌝ }
     ensures { λ r. ⌜ r ≡ accountOf (vehicles (now (portion .entry))) ⌝ }
 {
     let count = (portion.len() / SIZE) as u32;
@@ -114,23 +128,24 @@ pub(crate) fn account_from(
     Account {
         count: count,
         mass: running.mass,
-        vmass: vmasses[2],
-        mmass: mmasses[1],
+        vmass: sums[6],
+        mmass: sums[9],
         length: running.length,
         axles: running.axles,
-        vaxles: axles[2],
+        vaxles: sums[14],
         engines: running.engines,
-        mset: counts[1],
-        isolated: counts[0],
+        mset: sums[1],
+        isolated: sums[0],
         dloads: running.dloads,
         leading: leading,
         trailing: running.trailing,
         longest: running.longest,
         behind: engines_ahead < running.engines,
-        rule16: 0 < counts[3],
+        rule16: 0 < sums[3],
         rule17: running.joined < count,
         rule18: running.rule18,
         slowest: running.slowest,
         first: first,
+        vlength: sums[18],
     }
 }

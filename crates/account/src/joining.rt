@@ -75,5 +75,6 @@ pub(crate) fn add(left: Account, right: Account) -> Account
         rule18: left.rule18 | right.rule18,
         slowest: lesser(left.slowest, right.slowest),
         first: first,
+        vlength: sum(left.vlength, right.vlength),
     }
 }

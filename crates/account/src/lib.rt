@@ -1,15 +1,16 @@
-// The account of a portion of hauled vehicles, joining, and the vehicle that holds the speed. Knows no category.
+// The account of a portion of hauled vehicles, and joining. Knows no category.
 ghost use mathlib.Core.Path.{_≡_};
 ghost use Rattle.record.specs.Records.{recordsOf};
 ghost use Rattle.account.specs.Answers.{doneWith, refusedBy};
 ghost use Rattle.account.specs.Ceilings.{within};
 ghost use Rattle.account.specs.Portions.{accounted, engineOrBad, joined};
-ghost use Rattle.account.specs.Speed.{holdsTheSpeed};
+use crate::gather::SUMS;
 use crate::gather::account_from;
-use crate::gather::add_at;
+use crate::gather::add_by_setting;
 use crate::gather::set_at;
 use crate::gather::with_one;
 use record::vehicle::Found;
+use record::vehicle::MOST;
 use record::vehicle::Reading;
 use record::vehicle::SIZE;
 use record::vehicle::first_bad;
@@ -18,9 +19,8 @@ use record::vehicle::read;
 mod figure;
 mod gather;
 mod joining;
-mod speed;
 
-// The figures of hauled records, in document 01's order.
+// The figures of hauled records, in document 01's order, then those of requests.
 pub struct Account {
     pub count: u32,
     pub mass: u32,
@@ -50,6 +50,8 @@ pub struct Account {
     pub slowest: u32,
     // the settings of the first five, 4 where there is none
     pub first: [u32; 5],
+    // length of records set to V (request Three)
+    pub vlength: u32,
 }
 
 pub enum Answer {
@@ -72,9 +74,6 @@ pub struct Accounted {
     pub answer: Answer,
     pub account: Account,
 }
-
-// The most records of a train.
-const MOST: usize = 200;
 
 // Number 0.
 fn done(account: Account) -> Accounted
@@ -118,10 +117,7 @@ pub fn account_of(portion: &[u8]) -> Accounted
         return refused(Answer::TooMany);
     }
     let mut running = gather::none_yet();
-    let mut counts = [0u32; 4];
-    let mut vmasses = [0u32; 4];
-    let mut mmasses = [0u32; 4];
-    let mut axles = [0u32; 4];
+    let mut sums = [0u32; SUMS];
     let mut first = [4u32; 5];
     let mut i = 0;
     while i < n {
@@ -132,15 +128,12 @@ pub fn account_of(portion: &[u8]) -> Accounted
         if vehicle.kind == 2 {
             return refused(engine_or_bad(portion));
         }
-        add_at(&mut counts, vehicle.setting, 1);
-        add_at(&mut vmasses, vehicle.setting, vehicle.vmass);
-        add_at(&mut mmasses, vehicle.setting, vehicle.mmass);
-        add_at(&mut axles, vehicle.setting, vehicle.axles);
+        add_by_setting(&mut sums, vehicle);
         set_at(&mut first, i, vehicle.setting);
         running = with_one(running, vehicle);
         i += 1;
     }
-    done(account_from(portion, running, counts, vmasses, mmasses, axles, first))
+    done(account_from(portion, running, sums, first))
 }
 
 // Whether an account has no figure above its ceiling; 7 is for the rest.
@@ -162,21 +155,4 @@ pub fn join(left: Account, right: Account) -> Accounted
         return refused(Answer::TooMany);
     }
     done(account)
-}
-
-// The bytes of the vehicle that holds the speed, out of whichever portion has it.
-pub fn holds_the_speed<'a>(front: &'a [u8], back: &'a [u8]) -> &'a [u8]
-    ensures { λ r. ⌜ now r ≡ holdsTheSpeed (now (front .entry)) (now (back .entry)) ⌝ }
-{
-    if !(speed::is_whole_good(front) & speed::is_whole_good(back)) {
-        return &front[..0];
-    }
-    let n = front.len() / SIZE + back.len() / SIZE;
-    if MOST < n {
-        return &front[..0];
-    }
-    if n == 0 {
-        return &front[..0];
-    }
-    speed::slowest(front, back, n)
 }

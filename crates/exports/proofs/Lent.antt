@@ -1,28 +1,29 @@
 -- Laws of what is answered and lent: a number is small, and a place is that of one of 200 records or 64 sections. Assumes nothing.
-use Prim.Native.Nat.{ℕ, zero, suc, _+_, _*_, _≤_, _<_}
+use Prim.Native.Nat.{ℕ, _+_, _≤_, _<_}
 use mathlib.Core.Path.{_≡_, refl, sym, ap, _∙_}
-use mathlib.Core.Bool.{Bool, true, false, not, _||_, _&&_, cond}
+use mathlib.Core.Bool.{Bool, true, false, not, _||_, cond}
 use mathlib.Core.List.{List, [], _∷_, _++_}
-use mathlib.Core.Logic.{_⊎_, inl, inr, ⊎-elim}
+use mathlib.Core.Logic.{_⊎_, inr, ⊎-elim}
 use native.Mathlib.Omega.{arith}
 use borrow.Author.Tests.{ltb-false, lt-ltb, le-ltb, eq-eqb, ne-eqb}
-use lib.ListN.{length, take, drop, length-drop}
-use lib.Seq.{take-all, length-take-le}
-use Rattle.record.specs.Words.{_is_, _above_, _atMost_, all, leading, Every, Case, firstOf}
-use Rattle.record.specs.Records.{records, recordCount, recordsOf, isWhole}
+use lib.ListN.{length, take, drop}
+use lib.Seq.{take-all}
+use Rattle.record.specs.Words.{_is_, _above_, all, leading, Every, Case, firstOf}
+use Rattle.record.specs.Records.{recordCount, recordsOf, isWhole}
 use Rattle.record.specs.Vehicles.{good, vehicles, isWorking}
 use Rattle.record.proofs.Records.{length-records}
 use Rattle.record.specs.Figures.{some}
 use Rattle.account.specs.Ceilings.{within}
 use Rattle.account.specs.Answers as account
 use Rattle.account.specs.Portions.{portionRefusals, accounted, joinRefusals, joined}
-use Rattle.account.specs.Speed.{firstWith, slowestOf, wholeGood, holdsTheSpeed}
+use Rattle.speed.specs.Speed.{holdsTheSpeed}
+use Rattle.speed.proofs.Demands.{vehicle-or-none}
 use Rattle.account.specs.declared.Account.{Account}
 use Rattle.account.specs.declared.Accounted.{Accounted}
 use Rattle.account.specs.declared.Answer as account-answer
 use Rattle.account.specs.declared.Answer.the-variants as account-case
 use Rattle.record.proofs.Figures.{leading-le}
-use Rattle.record.proofs.Lists.{neither, every-append}
+use Rattle.record.proofs.Lists.{neither}
 use Rattle.sections.specs.Sections.{askedIn, goodSection, leadingGood}
 use Rattle.judge.specs.Answers.{numberOf, placeOf, trainAround, trainRefusals, trainAnswer, accountAround, accountRefusals, accountAnswer, orderRefusals, trainShape, engineShape}
 use Rattle.judge.specs.declared.Answer.{Answer}
@@ -188,30 +189,6 @@ module _ (r : Accounted) (room : List ℕ) (n : ℕ) (answered : n ≡ accountNu
 -- all of one list over the front of another
 pub copied : (to : List ℕ) {from want : List ℕ} → from ≡ want → take (length from) from ++ drop (length from) to ≡ want ++ drop (length want) to
 copied to {from} {want} e = ap (λ (l : List ℕ). take (length l) l ++ drop (length l) to) e ∙ ap (λ (l : List ℕ). l ++ drop (length want) to) (take-all (length want) want (omega arith))
-
-first-with-one : (P : List ℕ → Type 0) (p : List ℕ → Bool) (rs : List (List ℕ)) → Every P rs → P (firstWith p rs) ⊎ (firstWith p rs ≡ [])
-unfolding firstWith
-first-with-one P p [] h = inr refl
-first-with-one P p (r ∷ rs) h = go (p r) (first-with-one P p rs (h .1))
-  where
-    go : (b : Bool) → P (firstWith p rs) ⊎ (firstWith p rs ≡ []) → P (cond b r (firstWith p rs)) ⊎ (cond b r (firstWith p rs) ≡ [])
-    go true e = inl (h .0)
-    go false e = e
-
-records-long : (n : ℕ) (bs : List ℕ) → 24 * n ≤ length bs → Every (λ r. length r ≡ 24) (records n bs)
-unfolding records
-records-long zero bs h = tt
-records-long (suc n) bs h = (length-take-le 24 bs (omega arith), records-long n (drop 24 bs) (omega (arith, length-drop 24 bs)))
-
-pub vehicle-or-none : (front back : List ℕ) → (length (holdsTheSpeed front back) ≡ 24) ⊎ (holdsTheSpeed front back ≡ [])
-unfolding holdsTheSpeed slowestOf
-vehicle-or-none front back = go (wholeGood front && wholeGood back && recordCount front + recordCount back atMost 200)
-  where
-    go : (b : Bool) → (length (cond b (slowestOf (recordsOf front ++ recordsOf back)) []) ≡ 24) ⊎ (cond b (slowestOf (recordsOf front ++ recordsOf back)) [] ≡ [])
-    go true =
-        first-with-one (λ (r : List ℕ). length r ≡ 24) _ (recordsOf front ++ recordsOf back)
-        (every-append (λ (r : List ℕ). length r ≡ 24) (recordsOf front) (recordsOf back) (records-long (recordCount front) front (omega arith)) (records-long (recordCount back) back (omega arith)))
-    go false = inr refl
 
 pub vehicle-fits : (part front back : List ℕ) → part ≡ holdsTheSpeed front back → length part ≤ 24
 vehicle-fits part front back e =

@@ -8,7 +8,7 @@ use Rattle.record.specs.Words.{_is_, _above_}
 use Rattle.account.specs.Answers as account
 use Rattle.account.specs.Portions.{accounted, joined}
 use Rattle.account.specs.Groupings.{Grouping, portion, pair}
-use Rattle.account.specs.Speed.{holdsTheSpeed}
+use Rattle.speed.specs.Speed.{holdsTheSpeed}
 use Rattle.account.specs.declared.Accounted.{Accounted}
 use Rattle.account.specs.declared.Answer as account-answer
 use Rattle.judge.specs.Answers as judge

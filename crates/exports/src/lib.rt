@@ -8,7 +8,6 @@ ghost use Rattle.route.specs.Answers.{trainRoute, trainSpeeds, accountRoute, ac
 ghost use Rattle.travel.specs.AccountRecords.{offered};
 ghost use Rattle.exports.specs.Lent.{sheetNumber, routeNumber, lentNumber, lentAccount, lentVehicle, lentRoom};
 use account::account_of;
-use account::holds_the_speed;
 use account::join;
 use answer::number_of;
 use answer::place_of;
@@ -21,6 +20,7 @@ use record::vehicle::SIZE;
 use route::Route;
 use route::route_of_account;
 use route::route_of_train;
+use speed::holds_the_speed;
 use travel::offered_by;
 
 mod lend;

@@ -1,5 +1,5 @@
 -- The two readings of a train: the theorems, over the definitions of specs/. Assumes nothing.
-use Prim.Native.Nat.{ℕ}
+use Prim.Native.Nat.{ℕ, _≤_}
 use mathlib.Core.Path.{_≡_, ap, _∙_, subst}
 use mathlib.Core.Bool.{false}
 use mathlib.Core.List.{List, _++_}
@@ -15,6 +15,7 @@ use Rattle.facts.specs.Engines.{enginesOf, enginesIn, GoodEngines}
 use Rattle.facts.specs.Facts.{Working, workingOf, hauledOf, factsOf, factsBeside, held, Bounded}
 use Rattle.facts.proofs.Readings as readings
 use Rattle.facts.proofs.Engines.{engines-taken, engines-at-most}
+use Rattle.facts.proofs.Trains as trains
 use Rattle.facts.proofs.Trains.{engines-are, rest-is, facts-same, beside-bounded, held-is}
 
 -- ---- the rules over the figures
@@ -30,6 +31,11 @@ rule-43 = readings.rule-43
 
 pub rule-44 : (hauled : List Vehicle) → afterFifthM hauled ≡ afterFifthMBy (accountOf hauled)
 rule-44 = readings.rule-44
+
+-- ---- the length that k counts
+-- of every train it is at most the hauled length
+pub v-length-within : (train : List Vehicle) → factsOf train .hauledVLength ≤ factsOf train .hauledLength
+v-length-within = trains.v-length-within
 
 -- ---- working engines in front of hauled vehicles
 module _ (working hauled : List Vehicle) (w : Every Working working) (first : firstIs isWorking hauled ≡ false) where

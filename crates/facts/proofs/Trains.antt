@@ -1,5 +1,5 @@
--- Laws of the facts: the five first settings of an account, and that the two readings of a train agree. Assumes nothing.
-use Prim.Native.Nat.{ℕ, _+_, _%_, _<_}
+-- Laws of the facts: the five first settings of an account, that the two readings of a train agree, and that the length set to V is within the hauled. Assumes nothing.
+use Prim.Native.Nat.{ℕ, _+_, _%_, _≤_, _<_}
 use native.Mathlib.Omega.{arith}
 use mathlib.Core.Path.{_≡_, refl, ap, ap₂, _∙_}
 use mathlib.Core.Bool.{Bool, true, false, not, _&&_, _||_, cond, or-false}
@@ -18,7 +18,7 @@ use Rattle.record.proofs.Figures.{sum-append, count-append, some-append, least-
 use Rattle.facts.proofs.Readings.{rule-19, rule-20, rule-43, rule-44}
 use Rattle.account.specs.Ceilings.{Within}
 use Rattle.account.specs.declared.Account.{Account}
-use Rattle.account.proofs.Demands.{figure-at}
+use Rattle.account.proofs.Demands.{figure-at, v-length-most}
 use Rattle.facts.specs.Engines.{enginesOf}
 use Rattle.facts.proofs.Engines.{AtMost}
 use Rattle.facts.specs.declared.engine.Engines.{Engines}
@@ -73,6 +73,7 @@ module _ (working hauled : List Vehicle) (w : Every Working working) (first : fi
         hauledMass = sum (λ v. v .mass) (rest-is i);
         trainMass = sum-append (λ v. v .mass) working hauled i;
         hauledLength = sum (λ v. v .length) (rest-is i);
+        hauledVLength = sum (λ v. cond (isV v) (v .length) 0) (rest-is i);
         trainLength = sum-append (λ v. v .length) working hauled i;
         axles = sum-append (λ v. v .axles) working hauled i;
         engines = length (engines-are i) + count isHauledEngine (rest-is i);
@@ -119,6 +120,7 @@ held-is f b =
       hauledMass = f .hauledMass;
       trainMass = small (f .trainMass) (omega (arith, b .mass)) i;
       hauledLength = f .hauledLength;
+      hauledVLength = f .hauledVLength;
       trainLength = small (f .trainLength) (omega (arith, b .length)) i;
       axles = small (f .axles) (omega (arith, b .axles)) i;
       engines = small (f .engines) (omega (arith, b .engines)) i;
@@ -146,3 +148,8 @@ held-is f b =
 
     tiny : (x : ℕ) → x < 256 → x % 256 ≡ x
     tiny x h = omega arith
+
+-- ---- the length of the hauled set to V
+pub v-length-within : (train : List Vehicle) → factsOf train .hauledVLength ≤ factsOf train .hauledLength
+unfolding factsOf accountOf
+v-length-within train = v-length-most (hauledOf train)

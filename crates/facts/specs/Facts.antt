@@ -31,6 +31,8 @@ factsOf train =
       hauledMass = sum (λ v. v .mass) (hauledOf train);
       trainMass = sum (λ v. v .mass) train;
       hauledLength = sum (λ v. v .length) (hauledOf train);
+      -- of the hauled set to V, no working engine (note 7)
+      hauledVLength = sum (λ v. cond (isV v) (v .length) 0) (hauledOf train);
       trainLength = sum (λ v. v .length) train;
       axles = sum (λ v. v .axles) train;
       -- engines, working and hauled
@@ -62,6 +64,7 @@ besideOf e a =
       hauledMass = a .mass;
       trainMass = e .mass + a .mass;
       hauledLength = a .length;
+      hauledVLength = a .vlength;
       trainLength = e .length + a .length;
       axles = e .axles + a .axles;
       engines = e .count + a .engines;
@@ -101,6 +104,7 @@ held f =
       hauledMass = f .hauledMass;
       trainMass = word (f .trainMass);
       hauledLength = f .hauledLength;
+      hauledVLength = f .hauledVLength;
       trainLength = word (f .trainLength);
       axles = word (f .axles);
       engines = word (f .engines);

@@ -19,6 +19,8 @@ pub struct Facts {
     pub hauledMass: u32,
     pub trainMass: u32,
     pub hauledLength: u32,
+    // of the hauled set to V
+    pub hauledVLength: u32,
     pub trainLength: u32,
     pub axles: u32,
     // working and hauled
@@ -100,6 +102,7 @@ fn beside(e: Engines, s: Engines, a: Account) -> Facts
         hauledMass: a.mass,
         trainMass: figure(e.mass, s.mass, a.mass),
         hauledLength: a.length,
+        hauledVLength: a.vlength,
         trainLength: figure(e.length, s.length, a.length),
         axles: figure(e.axles, s.axles, a.axles),
         engines: figure(e.count, s.count, a.engines),

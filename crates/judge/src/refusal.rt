@@ -10,6 +10,7 @@ use crate::Answer;
 use account::Account;
 use account::within_ceilings;
 use record::vehicle::Found;
+use record::vehicle::MOST;
 use record::vehicle::SIZE;
 use record::vehicle::first_bad;
 use sheets::LENGTH;
@@ -60,7 +61,7 @@ pub(crate) fn count_refusal(vehicles: &[u8]) -> Answer
     if (vehicles.len() == 0) | (vehicles.len() % SIZE != 0) {
         return Answer::NotWhole;
     }
-    if 200 < vehicles.len() / SIZE {
+    if MOST < vehicles.len() / SIZE {
         return Answer::TooMany;
     }
     Answer::Done
@@ -76,7 +77,7 @@ pub(crate) fn engine_refusal(engines: &[u8], hauled: Account) -> Answer
     if !within_ceilings(hauled) {
         return Answer::AboveCeiling;
     }
-    if 200 < engines.len() / SIZE + hauled.count as usize {
+    if MOST < engines.len() / SIZE + hauled.count as usize {
         return Answer::TooMany;
     }
     field_refusal(engines)

@@ -113,6 +113,11 @@ module _ {A : Type 0} where
   sum-le P f c h [] e = omega (arith, mul-zero c)
   sum-le P f c h (x ∷ xs) e = omega (arith, h x (e .0), sum-le P f c h xs (e .1), mul-suc c (length xs))
 
+  -- a lesser figure has a lesser sum
+  pub sum-less : (f g : A → ℕ) → ((x : A) → f x ≤ g x) → (xs : List A) → sum f xs ≤ sum g xs
+  sum-less f g h [] = omega arith
+  sum-less f g h (x ∷ xs) = omega (arith, h x, sum-less f g h xs)
+
   pub count-le : (p : A → Bool) (xs : List A) → count p xs ≤ length xs
   count-le p [] = omega arith
   count-le p (x ∷ xs) = omega (arith, count-le p xs, cond-le (p x) 1 1 (omega arith))

@@ -7,7 +7,7 @@ use mathlib.Core.Bool.{Bool, true, false, not, _&&_, _||_, cond, false≢true, a
 use mathlib.Core.List.{List, [], _∷_, _++_, map}
 use borrow.Author.Tests.{lt-ltb}
 use lib.Dec.{ltb, leb·suc-suc}
-use lib.ListN.{length, getD, take, drop, drop-of-length-le, take-append-drop}
+use lib.ListN.{length, getD, set, take, drop, drop-of-length-le, take-append-drop}
 use lib.Seq.{drop-cons, length-take-le}
 use Rattle.record.specs.Words.{all, leading, Every}
 
@@ -140,6 +140,17 @@ module _ {A : Type 0} where
   pub every-right : (P : A → Type 0) (xs ys : List A) → Every P (xs ++ ys) → Every P ys
   every-right P [] ys e = e
   every-right P (x ∷ xs) ys e = every-right P xs ys (e .1)
+
+  -- at a place, and behind the last what stands for it
+  pub every-at : (P : A → Type 0) (d : A) → P d → (xs : List A) (k : ℕ) → Every P xs → P (getD xs k d)
+  every-at P d h [] k e = h
+  every-at P d h (x ∷ xs) zero e = e .0
+  every-at P d h (x ∷ xs) (suc k) e = every-at P d h xs k (e .1)
+
+  pub every-set : (P : A → Type 0) (xs : List A) (k : ℕ) (y : A) → Every P xs → P y → Every P (set xs k y)
+  every-set P [] k y e h = tt
+  every-set P (x ∷ xs) zero y e h = (h, e .1)
+  every-set P (x ∷ xs) (suc k) y e h = (e .0, every-set P xs k y (e .1) h)
 
 -- ---- a list is what stands at its places: one law for every length
 -- n places from i on

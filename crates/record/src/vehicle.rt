@@ -45,6 +45,9 @@ pub enum Found {
 // The bytes of a record.
 pub const SIZE: usize = 24;
 
+// The most records of a train.
+pub const MOST: usize = 200;
+
 // The place of the first record with a field out of range.
 pub fn first_bad(file: &[u8]) -> Found
     ensures { λ r. ⌜ r ≡ firstBad (recordsOf (now (file .entry))) ⌝ }

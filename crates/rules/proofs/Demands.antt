@@ -5,21 +5,27 @@ use mathlib.Core.Path.{_≡_, refl}
 use mathlib.Core.Bool.{true, false, not, _&&_, cond}
 use mathlib.Core.List.{List, [], _∷_, _++_, map}
 use lib.IntN.{pos}
-use lib.Signed.{ltZ}
+use lib.Signed.{ltZ, _≤ℤ_}
 use Rattle.record.specs.Words.{_above_, _atMost_, Every, caseAt, First}
 use Rattle.record.proofs.Cases.{first-applies, none-applies}
+use Rattle.record.specs.declared.vehicle.Vehicle.{Vehicle}
+use Rattle.facts.specs.Facts.{factsOf}
 use Rattle.facts.specs.declared.Facts.{Facts}
+use Rattle.facts.proofs.Demands.{v-length-within}
 use Rattle.order.specs.declared.Order.{Order}
 use Rattle.rules.specs.Categories.{speedOf, none, categoryOf}
-use Rattle.rules.specs.Brakes.{begunOf, marginFor}
+use Rattle.rules.specs.Brakes.{begunOf, deductionOf, marginFor}
+use Rattle.rules.specs.WholeLength.{wholeDeductionOf, wholeMarginFor}
 use Rattle.rules.specs.Rules.{Rule, rule, firstBroken, numbersOf, termsOf}
 use Rattle.rules.specs.Books.{RuleBook, rulesOf, brokenBy, Rise, Sound}
 use Rattle.rules.specs.CrossBorder.{ownRules, crossBorder}
 use Rattle.rules.specs.Grants.{stands, offerOf, bestOf, grantedOf, decisionOf, offersFrom, MayBeGranted, Among, Offered, Stands, Granted, KeepsNumber, Standing}
 use Rattle.rules.specs.declared.category.Category.{Category}
+use Rattle.rules.specs.declared.category.Weigh.{Weigh}
 use Rattle.rules.specs.declared.grant.Offer.{Offer}
 use Rattle.rules.specs.declared.grant.Best.{Best}
 use Rattle.rules.specs.declared.rule.Terms.{Terms}
+use Rattle.rules.proofs.Deductions as deductions
 use Rattle.rules.proofs.Grants as grants
 use Rattle.rules.proofs.Offers as offers
 use Rattle.rules.proofs.Offers.{may-offered, offered-may, is-granted}
@@ -65,11 +71,24 @@ pub rule-47 : (c : Category) (f : Facts) (o : Order) → caseAt 0 (rulesOf cross
 unfolding crossBorder termsOf
 rule-47 c f o = refl
 
--- 46, which 22 always comes before, asks for more than 10 begun 20 m in 1 to 3
-pub rule-46 : (c : Category) (f : Facts) (o : Order) → caseAt 0 (rulesOf crossBorder c f o) 20 ≡ rule 46 (not (c .isg) && begunOf (f .hauledLength) above 10)
+-- 46, which 22 comes before in every train, asks for more than 10 begun 20 m of the hauled set to V in 1 to 3
+pub rule-46 : (c : Category) (f : Facts) (o : Order) → caseAt 0 (rulesOf crossBorder c f o) 20 ≡ rule 46 (not (c .isg) && begunOf (f .hauledVLength) above 10)
 unfolding crossBorder termsOf
 rule-46 c f o = refl
 
+-- ---- the length that k counts, against the whole hauled length
+-- where it is at most the whole, k has not grown
+pub k-not-grown : (w : Weigh) (f : Facts) → f .hauledVLength ≤ f .hauledLength → deductionOf w f ≤ wholeDeductionOf w f
+k-not-grown = deductions.k-not-grown
+
+-- so it has for no train, and for no train, category and order is the margin less than it was
+pub train-k-not-grown : (w : Weigh) (train : List Vehicle) → deductionOf w (factsOf train) ≤ wholeDeductionOf w (factsOf train)
+train-k-not-grown w train = deductions.k-not-grown w (factsOf train) (v-length-within train)
+
+pub train-margin-not-less : (c : Category) (train : List Vehicle) (o : Order) → wholeMarginFor c (factsOf train) o ≤ℤ marginFor c (factsOf train) o
+train-margin-not-less c train o = deductions.margin-not-less c (factsOf train) o (v-length-within train)
+
+-- ---- the first rule broken
 -- a rule's number is given exactly when it is broken and no earlier one is
 pub rule-first : (rules : List Rule) (p : First 0 rules) → firstBroken rules ≡ caseAt 0 rules (p .place) .gives
 rule-first rules p = first-applies 0 rules (p .place) (p .within) (p .applies) (p .earlier)

@@ -1,4 +1,5 @@
 pub mod Rules
+pub mod Deductions
 pub mod Grants
 pub mod Offers
 pub mod Rows

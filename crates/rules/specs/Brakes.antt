@@ -17,18 +17,26 @@ abbrev pub partsOf : Weigh → Facts → Braked
 partsOf ThreeQuarters f = record { set = f .vmass; whole = 0; reduced = f .mmass }
 partsOf Whole f = record { set = f .vmass; whole = f .mmass; reduced = 0 }
 
--- the begun 20 m by which the hauled part passes 500 m (note 7)
+-- the begun 20 m by which a length passes 500 m (note 7)
 abbrev pub begunOf : ℕ → ℕ
 begunOf length = (length - 5000 + 199) / 200
 
--- k: the begun 20 m, at most 10, in 1 to 3; nothing is deducted in 4 and 5
+-- the begun 20 m of a length, at most 10, in 1 to 3; nothing is deducted in 4 and 5
+abbrev pub deductionBy : Weigh → ℕ → ℕ
+deductionBy ThreeQuarters length = min 10 (begunOf length)
+deductionBy Whole length = 0
+
+-- k, by the hauled vehicles braked in V (note 7, request Three)
 abbrev pub deductionOf : Weigh → Facts → ℕ
-deductionOf ThreeQuarters f = min 10 (begunOf (f .hauledLength))
-deductionOf Whole f = 0
+deductionOf w f = deductionBy w (f .hauledVLength)
+
+-- the margin where k percent are deducted
+abbrev pub marginBy : ℕ → Category → Facts → Order → ℤ
+marginBy k c f o = marginOf (fourfold (partsOf (c .weigh) f)) k (percentageOf c f o) (f .trainMass)
 
 -- the exact margin, in 4,000ths of a tonne
 unfoldable pub marginFor : Category → Facts → Order → ℤ
-marginFor c f o = marginOf (fourfold (partsOf (c .weigh) f)) (deductionOf (c .weigh) f) (percentageOf c f o) (f .trainMass)
+marginFor c f o = marginBy (deductionOf (c .weigh) f) c f o
 
 -- 47: broken exactly when it is below zero
 abbrev pub isShort : Category → Facts → Order → Bool

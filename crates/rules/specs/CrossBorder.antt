@@ -77,7 +77,7 @@ ownRules t f =
     ∷ rule 43 (not (t .isg) && f .hauledMass above 12000 && f .firstFiveV)
     -- 44, 1 to 3: hauled mass above 1,200 t and a hauled vehicle after the fifth set to M (note 6)
     ∷ rule 44 (not (t .isg) && f .hauledMass above 12000 && f .afterFifthM)
-    -- 46, 1 to 3: more than 10 begun 20 m (note 7)
+    -- 46, 1 to 3: more than 10 begun 20 m of the hauled vehicles set to V (note 7)
     ∷ rule 46 (not (t .isg) && t .begun above 10)
     -- 47, all: braked mass too small
     ∷ rule 47 (t .short)

@@ -5,4 +5,5 @@ pub mod Books
 pub mod Families
 pub mod CrossBorder
 pub mod Grants
+pub mod WholeLength
 pub mod Limits

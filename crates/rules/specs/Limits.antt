@@ -1,8 +1,10 @@
--- Document 01's marks one by one, its figures each at its limit and one above, and the rules that a category is not asked, on trains that break no other rule; what brakes, of one such train.
+-- Document 01's marks one by one, its figures each at its limit and one above, and the rules that a category is not asked, on facts that break no other rule; what brakes, of some such facts.
 use Prim.Native.Nat.{ℕ}
-use mathlib.Core.Bool.{Bool, true, false, cond}
+use mathlib.Core.Bool.{Bool, cond}
 use mathlib.Core.List.{List, [], _∷_}
 use lib.ListN.{replicate}
+use Rattle.record.specs.Words.{_is_}
+use Rattle.record.specs.Figures.{some}
 use Rattle.facts.specs.declared.Facts.{Facts}
 use Rattle.order.specs.declared.Order.{Order}
 use Rattle.rules.specs.Categories.{categoryOf}
@@ -14,56 +16,123 @@ use Rattle.rules.specs.CrossBorder.{crossRows, crossBorder}
 abbrev line : List ℕ → ℕ → ℕ → Order
 line limits coupling admissible = record { limits = limits; asked = 1; german = 0; coupling = coupling; admissible = admissible }
 
--- these marks of 15 to 20 and these figures, the train's mass 0, so that no margin is short
-abbrev marked : Bool → Bool → Bool → Bool → Bool → Bool → ℕ → ℕ → ℕ → ℕ → ℕ → ℕ → ℕ → ℕ → ℕ → Bool → Bool → Bool → Bool → Facts
-marked behind setR notJoined matrossow first last mass hauledLength trainLength axles engines vmass mmass vaxles longest m notM fiveV laterM =
+-- ---- facts by the names of their figures and marks; the numbers are names, each another
+abbrev hauledMass : ℕ
+hauledMass = 0
+
+abbrev hauledLength : ℕ
+hauledLength = 1
+
+abbrev hauledVLength : ℕ
+hauledVLength = 2
+
+abbrev trainLength : ℕ
+trainLength = 3
+
+abbrev axles : ℕ
+axles = 4
+
+abbrev engines : ℕ
+engines = 5
+
+abbrev vmass : ℕ
+vmass = 6
+
+abbrev mmass : ℕ
+mmass = 7
+
+abbrev vaxles : ℕ
+vaxles = 8
+
+abbrev longest : ℕ
+longest = 9
+
+abbrev hauledM : ℕ
+hauledM = 10
+
+abbrev workingNotM : ℕ
+workingNotM = 11
+
+abbrev firstFiveV : ℕ
+firstFiveV = 12
+
+abbrev afterFifthM : ℕ
+afterFifthM = 13
+
+abbrev firstIsolated : ℕ
+firstIsolated = 14
+
+abbrev lastIsolated : ℕ
+lastIsolated = 15
+
+abbrev behind : ℕ
+behind = 16
+
+abbrev setR : ℕ
+setR = 17
+
+abbrev notJoined : ℕ
+notJoined = 18
+
+abbrev matrossow : ℕ
+matrossow = 19
+
+-- what is said beside a name, and else 0
+abbrev said : ℕ → List (ℕ × ℕ) → ℕ
+said name [] = 0
+said name (x ∷ xs) = cond (name is x .0) (x .1) (said name xs)
+
+-- whether a name is said
+abbrev named : ℕ → List ℕ → Bool
+named name xs = some (λ x. x is name) xs
+
+-- these figures and marks and no others; the train's mass is 0, so that no margin is short
+abbrev facts : List (ℕ × ℕ) → List ℕ → Facts
+facts figures marks =
     record {
-      hauledMass = mass;
+      hauledMass = said hauledMass figures;
       trainMass = 0;
-      hauledLength = hauledLength;
-      trainLength = trainLength;
-      axles = axles;
-      engines = engines;
-      vmass = vmass;
-      mmass = mmass;
-      vaxles = vaxles;
-      longest = longest;
-      hauledM = m;
-      workingNotM = notM;
-      firstFiveV = fiveV;
-      afterFifthM = laterM;
-      firstIsolated = first;
-      lastIsolated = last;
-      behind = behind;
-      setR = setR;
-      notJoined = notJoined;
-      matrossow = matrossow;
+      hauledLength = said hauledLength figures;
+      hauledVLength = said hauledVLength figures;
+      trainLength = said trainLength figures;
+      axles = said axles figures;
+      engines = said engines figures;
+      vmass = said vmass figures;
+      mmass = said mmass figures;
+      vaxles = said vaxles figures;
+      longest = said longest figures;
+      hauledM = named hauledM marks;
+      workingNotM = named workingNotM marks;
+      firstFiveV = named firstFiveV marks;
+      afterFifthM = named afterFifthM marks;
+      firstIsolated = named firstIsolated marks;
+      lastIsolated = named lastIsolated marks;
+      behind = named behind marks;
+      setR = named setR marks;
+      notJoined = named notJoined marks;
+      matrossow = named matrossow marks;
       slowest = 200;
       dloads = 0;
       isolated = 0;
     }
 
--- none of these marks
-abbrev train : ℕ → ℕ → ℕ → ℕ → ℕ → ℕ → ℕ → ℕ → ℕ → Bool → Bool → Bool → Bool → Facts
-train = marked false false false false false false
+-- one figure alone, one mark alone, a hauled mass with a mark
+abbrev having : ℕ → ℕ → Facts
+having name n = facts ((name, n) ∷ []) []
 
--- and these alone
-abbrev faulty : Bool → Bool → Bool → Bool → Bool → Bool → Facts
-faulty behind setR notJoined matrossow first last = marked behind setR notJoined matrossow first last 0 0 0 0 0 0 0 0 0 false false false false
+abbrev marked : ℕ → Facts
+marked name = facts [] (name ∷ [])
 
-abbrev counted : ℕ → ℕ → ℕ → ℕ → ℕ → ℕ → ℕ → Facts
-counted hauledLength trainLength axles engines vmass vaxles longest = train 0 hauledLength trainLength axles engines vmass 0 vaxles longest false false false false
+abbrev heavy : ℕ → ℕ → Facts
+heavy mass name = facts ((hauledMass, mass) ∷ []) (name ∷ [])
 
-abbrev heavy : ℕ → Bool → Bool → Bool → Bool → Facts
-heavy mass = train mass 0 0 0 0 0 0 0 0
-
--- V masses 1,000, M masses 400, hauled length 5,201
-abbrev braking : Facts
-braking = train 0 5201 0 0 0 1000 400 0 0 false false false false
+-- V masses 1,000, M masses 400, a hauled part of 700 m and this much said to be set to V
+abbrev braking : ℕ → Facts
+braking vLength = facts ((vmass, 1000) ∷ (mmass, 400) ∷ (hauledLength, 7000) ∷ (hauledVLength, vLength) ∷ []) []
 
 -- byte 14 of an asked number
 abbrev byte14 : ℕ → ℕ → ℕ
-byte14 asked mass = cond (crossBorder .mark asked (heavy mass false false false false)) 1 0
+byte14 asked mass = cond (crossBorder .mark asked (having hauledMass mass)) 1 0
 
 -- what the category of a number breaks on a line with all columns, LRA and admissible mass as given
 abbrev broken : ℕ → ℕ → ℕ → Facts → ℕ
@@ -74,78 +143,85 @@ by n f = broken n 100000 100000 f
 
 -- where only these columns are there
 abbrev missing : ℕ → List ℕ → ℕ
-missing n limits = brokenBy crossBorder (categoryOf n crossRows) (heavy 0 false false false false) (line limits 100000 100000)
+missing n limits = brokenBy crossBorder (categoryOf n crossRows) (facts [] []) (line limits 100000 100000)
 
 abbrev pub atLimits : List ℕ
 atLimits =
     -- 15 to 20, each alone
-    by 1 (faulty true false false false false false)
-    ∷ by 2 (faulty false true false false false false)
-    ∷ by 3 (faulty false false true false false false)
-    ∷ by 4 (faulty false false false true false false)
-    ∷ by 5 (faulty false false false false true false)
-    ∷ by 1 (faulty false false false false false true)
+    by 1 (marked behind)
+    ∷ by 2 (marked setR)
+    ∷ by 3 (marked notJoined)
+    ∷ by 4 (marked matrossow)
+    ∷ by 5 (marked firstIsolated)
+    ∷ by 1 (marked lastIsolated)
     -- 21, 22, 23
-    ∷ by 1 (counted 0 7400 0 0 0 0 0)
-    ∷ by 1 (counted 0 7401 0 0 0 0 0)
-    ∷ by 5 (counted 7000 7000 0 0 0 0 0)
-    ∷ by 5 (counted 7001 7001 0 0 0 0 0)
-    ∷ by 1 (counted 0 0 250 0 0 0 0)
-    ∷ by 1 (counted 0 0 251 0 0 0 0)
+    ∷ by 1 (having trainLength 7400)
+    ∷ by 1 (having trainLength 7401)
+    ∷ by 5 (having hauledLength 7000)
+    ∷ by 5 (having hauledLength 7001)
+    ∷ by 1 (having axles 250)
+    ∷ by 1 (having axles 251)
     -- 30: category 3's column missing and MA90 there, and neither that nor any to its right
     ∷ missing 3 (0 ∷ 0 ∷ 0 ∷ 90 ∷ 0 ∷ [])
     ∷ missing 3 (120 ∷ 100 ∷ 0 ∷ 0 ∷ 0 ∷ [])
     -- 31 of 1 to 3, and of 4 and 5
-    ∷ by 1 (counted 0 0 0 3 0 0 0)
-    ∷ by 1 (counted 0 0 0 4 0 0 0)
-    ∷ by 4 (counted 0 0 0 6 0 0 0)
-    ∷ by 4 (counted 0 0 0 7 0 0 0)
+    ∷ by 1 (having engines 3)
+    ∷ by 1 (having engines 4)
+    ∷ by 4 (having engines 6)
+    ∷ by 4 (having engines 7)
     -- 32, 33, 34
-    ∷ by 4 (counted 0 0 0 0 2000 0 0)
-    ∷ by 4 (counted 0 0 0 0 2001 0 0)
-    ∷ by 5 (counted 0 0 0 0 0 0 10)
-    ∷ by 5 (counted 0 0 0 0 0 0 11)
-    ∷ by 4 (counted 0 0 0 0 0 12 0)
-    ∷ by 4 (counted 0 0 0 0 0 13 0)
+    ∷ by 4 (having vmass 2000)
+    ∷ by 4 (having vmass 2001)
+    ∷ by 5 (having longest 10)
+    ∷ by 5 (having longest 11)
+    ∷ by 4 (having vaxles 12)
+    ∷ by 4 (having vaxles 13)
     -- 35 by LRA, and by admissible mass
-    ∷ broken 5 9000 9500 (heavy 9000 false false false false)
-    ∷ broken 5 9000 9500 (heavy 9001 false false false false)
-    ∷ broken 5 9500 9000 (heavy 9000 false false false false)
-    ∷ broken 5 9500 9000 (heavy 9001 false false false false)
+    ∷ broken 5 9000 9500 (having hauledMass 9000)
+    ∷ broken 5 9000 9500 (having hauledMass 9001)
+    ∷ broken 5 9500 9000 (having hauledMass 9000)
+    ∷ broken 5 9500 9000 (having hauledMass 9001)
     -- 40
-    ∷ by 1 (heavy 16000 false false false false)
-    ∷ by 1 (heavy 16001 false false false false)
+    ∷ by 1 (having hauledMass 16000)
+    ∷ by 1 (having hauledMass 16001)
     -- 41, which is broken up to its limit
-    ∷ by 2 (heavy 12001 true false false false)
-    ∷ by 2 (heavy 12000 true false false false)
+    ∷ by 2 (heavy 12001 hauledM)
+    ∷ by 2 (heavy 12000 hauledM)
     -- 42, 43, 44
-    ∷ by 1 (heavy 8000 false true false false)
-    ∷ by 1 (heavy 8001 false true false false)
-    ∷ by 3 (heavy 12000 false false true false)
-    ∷ by 3 (heavy 12001 false false true false)
-    ∷ by 2 (heavy 12000 false false false true)
-    ∷ by 2 (heavy 12001 false false false true)
+    ∷ by 1 (heavy 8000 workingNotM)
+    ∷ by 1 (heavy 8001 workingNotM)
+    ∷ by 3 (heavy 12000 firstFiveV)
+    ∷ by 3 (heavy 12001 firstFiveV)
+    ∷ by 2 (heavy 12000 afterFifthM)
+    ∷ by 2 (heavy 12001 afterFifthM)
     -- 32 to 35 are not asked of 1 to 3
-    ∷ by 1 (counted 0 0 0 0 2001 0 0)
-    ∷ by 2 (counted 0 0 0 0 0 0 11)
-    ∷ by 3 (counted 0 0 0 0 0 13 0)
-    ∷ broken 1 9000 9500 (heavy 9001 false false false false)
+    ∷ by 1 (having vmass 2001)
+    ∷ by 2 (having longest 11)
+    ∷ by 3 (having vaxles 13)
+    ∷ broken 1 9000 9500 (having hauledMass 9001)
     -- 40 to 44 are not asked of 4 and 5
-    ∷ by 4 (heavy 16001 false false false false)
-    ∷ by 5 (heavy 12000 true false false false)
-    ∷ by 4 (heavy 8001 false true false false)
-    ∷ by 5 (heavy 12001 false false true false)
-    ∷ by 4 (heavy 12001 false false false true)
-    -- the begun 20 m at 500 m and behind it, and at the limit of 46
+    ∷ by 4 (having hauledMass 16001)
+    ∷ by 5 (heavy 12000 hauledM)
+    ∷ by 4 (heavy 8001 workingNotM)
+    ∷ by 5 (heavy 12001 firstFiveV)
+    ∷ by 4 (heavy 12001 afterFifthM)
+    -- the begun 20 m at 500 m and behind it
     ∷ begunOf 5000
     ∷ begunOf 5001
     ∷ begunOf 5200
     ∷ begunOf 5201
-    ∷ begunOf 7000
-    ∷ begunOf 7001
-    -- braked mass: three quarters of M and 2 percent deducted in 1 to 3, the whole of both in 4 and 5
-    ∷ brakedOf (categoryOf 1 crossRows) braking
-    ∷ brakedOf (categoryOf 4 crossRows) braking
+    -- 46, which an account that no list has can break, and which is not asked of 4 and 5
+    ∷ by 1 (having hauledVLength 7000)
+    ∷ by 1 (having hauledVLength 7001)
+    ∷ by 2 (having hauledVLength 7001)
+    ∷ by 3 (having hauledVLength 7001)
+    ∷ by 4 (having hauledVLength 7001)
+    ∷ by 5 (having hauledVLength 7001)
+    -- braked mass: three quarters of M, and 2, 10 and no more than 10 percent deducted, in 1 to 3; the whole of both in 4 and 5
+    ∷ brakedOf (categoryOf 1 crossRows) (braking 5201)
+    ∷ brakedOf (categoryOf 1 crossRows) (braking 7000)
+    ∷ brakedOf (categoryOf 1 crossRows) (braking 7001)
+    ∷ brakedOf (categoryOf 4 crossRows) (braking 5201)
     -- byte 14
     ∷ byte14 3 12000
     ∷ byte14 3 12001
@@ -164,7 +240,8 @@ expected =
     ∷ 0 ∷ 40 ∷ 0 ∷ 41 ∷ 0 ∷ 42 ∷ 0 ∷ 43 ∷ 0 ∷ 44
     ∷ 0 ∷ 0 ∷ 0 ∷ 0
     ∷ 0 ∷ 0 ∷ 0 ∷ 0 ∷ 0
-    ∷ 0 ∷ 1 ∷ 1 ∷ 2 ∷ 10 ∷ 11
-    ∷ 1274 ∷ 1400
+    ∷ 0 ∷ 1 ∷ 1 ∷ 2
+    ∷ 0 ∷ 46 ∷ 46 ∷ 46 ∷ 0 ∷ 0
+    ∷ 1274 ∷ 1170 ∷ 1170 ∷ 1400
     ∷ 0 ∷ 1 ∷ 0 ∷ 0
     ∷ []

@@ -36,7 +36,7 @@ termsAt isg line short f o =
       -- more engines than 3 (1 to 3) or 6 (4 and 5)
       most = cond isg 6 3;
       load = min (o .coupling) (o .admissible);
-      begun = begunOf (f .hauledLength);
+      begun = begunOf (f .hauledVLength);
       short = short;
     }
 

@@ -8,7 +8,7 @@ use facts::Facts;
 use margin::Braked;
 use order::Order;
 
-// The begun 20 m by which the hauled part passes 500 m (note 7).
+// The begun 20 m by which a length passes 500 m (note 7).
 pub(crate) fn begun(length: u32) -> u32
     ensures { λ r. ⌜ r ≡ begunOf length ⌝ }
 {
@@ -25,12 +25,12 @@ fn held(begun: u32) -> u8
     if 10 < begun { 10 } else { begun as u8 }
 }
 
-// k
+// k, of the hauled vehicles braked in V (note 7).
 pub(crate) fn deduction(w: Weigh, f: Facts) -> u8
     ensures { λ k. ⌜ k ≡ deductionOf w f ⌝ }
 {
     match w {
-        Weigh::ThreeQuarters => held(begun(f.hauledLength)),
+        Weigh::ThreeQuarters => held(begun(f.hauledVLength)),
         Weigh::Whole => 0,
     }
 }

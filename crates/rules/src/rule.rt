@@ -55,7 +55,7 @@ fn still_terms(isg: bool, f: Facts, o: Order) -> Terms
         line: 1,
         most: most_engines(isg),
         load: lesser(o.coupling, o.admissible),
-        begun: begun(f.hauledLength),
+        begun: begun(f.hauledVLength),
         short: false,
     }
 }

@@ -87,9 +87,9 @@ behind hauled = factsOf (vehicle 2 900 1000 800 200 2 140 ∷ hauled)
 abbrev wagonA : ℕ → Vehicle
 wagonA v = vehicle 0 600 v 500 150 2 120
 
--- E by its length, F and G by its mass, H by its setting and mass
-abbrev wagonE : ℕ → Vehicle
-wagonE length = vehicle 0 600 500 500 length 2 120
+-- E by its length and setting, F and G by its mass, H by its setting and mass
+abbrev wagonE : ℕ → ℕ → Vehicle
+wagonE length setting = vehicle 0 600 500 500 length setting 120
 
 abbrev wagonF : ℕ → Vehicle
 wagonF mass = vehicle 0 mass 2500 500 150 2 120
@@ -117,6 +117,14 @@ margins hauled =
 abbrev k : List Vehicle → Shown
 k hauled = number (deductionOf (category 1 .weigh) (behind hauled))
 
+-- forty isolated metres, behind the first hauled vehicle
+abbrev isolatedIn : List Vehicle → List Vehicle
+isolatedIn hauled = take 1 hauled ++ (wagonE 400 0 ∷ drop 1 hauled)
+
+-- k of a train, and of the same with the isolated metres in it
+abbrev kBoth : List Vehicle → List Shown
+kBoth hauled = k hauled ∷ k (isolatedIn hauled) ∷ []
+
 abbrev broken : ℕ → List Vehicle → Shown
 broken n hauled = number (brokenBy crossBorder (category n) (behind hauled) (asking 1))
 
@@ -135,14 +143,14 @@ shown =
     ∷ margins (replicate 10 (wagonA 430))
     ++ margins (replicate 9 (wagonA 431) ++ replicate 1 (wagonA 432))
     ++ margins (replicate 7 (wagonA 431) ++ replicate 3 (wagonA 432))
-    -- E: k at 5,000, 5,001, 5,200, 5,201 and 7,000
-    ++ (k (replicate 5 (wagonE 1000))
-    ∷ k (wagonE 1 ∷ replicate 5 (wagonE 1000))
-    ∷ k (wagonE 200 ∷ replicate 5 (wagonE 1000))
-    ∷ k (wagonE 201 ∷ replicate 5 (wagonE 1000))
-    ∷ k (replicate 7 (wagonE 1000))
+    -- E: k at 5,000, 5,001, 5,200, 5,201 and 7,000 set to V, each also with forty isolated metres (request Three)
+    ++ kBoth (replicate 5 (wagonE 1000 2))
+    ++ kBoth (wagonE 1 2 ∷ replicate 5 (wagonE 1000 2))
+    ++ kBoth (wagonE 200 2 ∷ replicate 5 (wagonE 1000 2))
+    ++ kBoth (wagonE 201 2 ∷ replicate 5 (wagonE 1000 2))
+    ++ kBoth (replicate 7 (wagonE 1000 2))
     -- F: hauled 8,000 with the engine in V, and 8,001
-    ∷ broken 1 (replicate 10 (wagonF 800))
+    ++ (broken 1 (replicate 10 (wagonF 800))
     ∷ broken 1 (wagonF 801 ∷ replicate 9 (wagonF 800))
     -- G: byte 14 at hauled 12,000 and at 12,001, with 1, 2, 3 asked, and with 4
     ∷ byte14 1 (replicate 10 (wagonF 1200))
@@ -171,11 +179,11 @@ expected =
     ∷ margin (pos 0)
     ∷ bytes (0x00 ∷ 0x00 ∷ 0x00 ∷ [])
     ∷ number 1
-    ∷ number 0
-    ∷ number 1
-    ∷ number 1
-    ∷ number 2
-    ∷ number 10
+    ∷ number 0 ∷ number 0
+    ∷ number 1 ∷ number 1
+    ∷ number 1 ∷ number 1
+    ∷ number 2 ∷ number 2
+    ∷ number 10 ∷ number 10
     ∷ number 0
     ∷ number 42
     ∷ number 0

@@ -143,6 +143,7 @@ module _ (a : Account) where
         rule18 = mark-back (a .rule18) i;
         slowest = four-back (a .slowest) i;
         first = first i;
+        vlength = four-back (a .vlength) i;
       })
 
   pub record-within : within (offered (recordOf a)) ≡ within a

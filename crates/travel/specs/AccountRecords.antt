@@ -1,4 +1,4 @@
--- An account as it travels: 128 bytes, numbers little-endian, the figures in document 01's order. A figure once given its bytes never moves.
+-- An account as it travels: 128 bytes, numbers little-endian, the figures in document 01's order, then those of requests. A figure once given its bytes never moves.
 use Prim.Native.Nat.{ℕ, _/_, _%_, _-_, min}
 use mathlib.Core.Bool.{Bool, _&&_, cond}
 use mathlib.Core.List.{List, [], _∷_, _++_, map}
@@ -13,7 +13,7 @@ abbrev pub size : ℕ
 size = 128
 
 abbrev pub unusedFrom : ℕ
-unusedFrom = 69
+unusedFrom = 73
 
 -- ---- reading
 -- the number in the four bytes from s on
@@ -54,12 +54,14 @@ accountIn bs =
       slowest = figureAt 60 bs;
       -- 64-68 the settings of the first five
       first = byteAt 64 bs ∷ byteAt 65 bs ∷ byteAt 66 bs ∷ byteAt 67 bs ∷ byteAt 68 bs ∷ [];
+      -- 69-72 length of records set to V
+      vlength = figureAt 69 bs;
     }
 
 abbrev pub marksIn : List ℕ → List ℕ
 marksIn bs = byteAt 56 bs ∷ byteAt 57 bs ∷ byteAt 58 bs ∷ byteAt 59 bs ∷ []
 
--- 69-127
+-- 73-127
 abbrev pub unusedIn : List ℕ → List ℕ
 unusedIn bs = drop unusedFrom bs
 
@@ -119,5 +121,7 @@ recordOf a =
     ++ figureBytes (a .slowest)
     -- 64-68
     ++ map settingByte (five (a .first))
-    -- 69-127 not used
+    -- 69-72
+    ++ figureBytes (a .vlength)
+    -- 73-127 not used
     ++ replicate (size - unusedFrom) 0

@@ -12,7 +12,7 @@ use record::number::number;
 pub const SIZE: usize = 128;
 
 // The first byte that is not used.
-const UNUSED: usize = 69;
+const UNUSED: usize = 73;
 
 // The number in the four bytes from `at` on.
 fn figure(bytes: &[u8], at: usize) -> u32
@@ -69,6 +69,7 @@ fn account_in(bytes: &[u8]) -> Account
         rule18: bytes[59] == 1,
         slowest: figure(bytes, 60),
         first: first,
+        vlength: figure(bytes, 69),
     }
 }
 
@@ -125,6 +126,7 @@ fn above_ceiling() -> Account
         rule18: false,
         slowest: 0,
         first: [0; 5],
+        vlength: 0,
     }
 }
 
@@ -193,5 +195,6 @@ pub fn record_of(a: Account) -> [u8; SIZE]
     bytes[66] = setting_byte(first[2]);
     bytes[67] = setting_byte(first[3]);
     bytes[68] = setting_byte(first[4]);
+    put_figure(&mut bytes, 69, a.vlength);
     bytes
 }

@@ -15,10 +15,12 @@ type Checked<T> = Result<T, Box<dyn Error>>;
 const VEHICLES: usize = 11;
 const TRAIN: usize = VEHICLES * VEHICLE;
 const CUT: usize = 4 * VEHICLE;
+const MIDDLE: usize = 6 * VEHICLE;
 
-// Kinds and settings of bytes 17 and 18, as far as this train has them.
+// Kinds and settings of bytes 17 and 18, as far as these trains have them.
 const WAGON: u8 = 0;
 const WORKING_ENGINE: u8 = 2;
+const ISOLATED: u8 = 0;
 const SET_V: u8 = 2;
 
 const CATEGORY: [&str; 6] = [
@@ -220,6 +222,57 @@ fn route(train: &[u8], orders: &[u8]) -> Checked<Route> {
     Ok(route)
 }
 
+/// How long the hauled part is, what of it is set to V, and what the sheet says then; 550.0 t are braked, less k percent.
+fn lengths(train: &[u8], order: &[u8], hauled: u64, tonnes: i32) -> Checked<()> {
+    let account = account_of(&train[VEHICLE..])?;
+    let sheet = sheet_of_train(train, order)?;
+    let (all, in_v) = (get(&account.0[16..20]), get(&account.0[69..73]));
+    let (granted, braked) = (CATEGORY[usize::from(sheet[1])], get(&sheet[24..28]));
+    println!(
+        "  hauled {}.{} m, of these {}.{} m set to V",
+        all / 10,
+        all % 10,
+        in_v / 10,
+        in_v % 10
+    );
+    println!(
+        "  granted {granted}, margin {} t, braked mass {}.{} t",
+        margin(&sheet),
+        braked / 10,
+        braked % 10
+    );
+    expect((all, in_v) == (hauled, 5_000), "500.0 m are set to V")?;
+    expect(
+        (sheet[1], margin(&sheet), braked) == (1, tonnes, 5_500),
+        "up to 500 m set to V nothing is deducted",
+    )
+}
+
+/// 550.0 t are 18.7 t above 77 percent of 690.0 t. The isolated wagon costs 77 percent of its 20.0 t, which are 15.4 t, and
+/// leaves 3.3 t; were its metres counted, k would be 2 and category 1 lost.
+fn isolated_metres(order: &[u8]) -> Checked<()> {
+    let mut train = train(450).to_vec();
+    for wagon in train[VEHICLE..].chunks_exact_mut(VEHICLE) {
+        wagon[14..16].copy_from_slice(&500_u16.to_le_bytes());
+    }
+    println!("Ten wagons of 50.0 m, set to V and braked with 45.0 t each");
+    lengths(&train, order, 5_000, 18)?;
+    println!("The same with an isolated wagon of 40.0 m and 20.0 t in the middle");
+    let isolated = record(Vehicle {
+        number: 125,
+        mass: 200,
+        braked_v: 0,
+        braked_m: 0,
+        length: 400,
+        axles: 4,
+        kind: WAGON,
+        setting: ISOLATED,
+        speed: 120,
+    });
+    train.splice(MIDDLE..MIDDLE, isolated);
+    lengths(&train, order, 5_400, 3)
+}
+
 /// Prints the refusal and holds it against the one that is due.
 fn given(answer: Answer, refusal: Refusal) -> Checked<()> {
     match answer.done() {
@@ -279,6 +332,7 @@ fn tour() -> Checked<()> {
     println!("The vehicle that holds the speed");
     speed_holder(&train_a)?;
     routes(&train_a, &order, &account)?;
+    isolated_metres(&order)?;
 
     let mut sheet = [0xaa; SHEET]; // a mark that no refused call may touch
     println!("The last wagon's number mistyped, 177 for 117");

@@ -294,6 +294,10 @@ fn finish(report: &Report) -> ExitCode {
     for what in &missing {
         println!("never met: {what}");
     }
+    let impossible = report.coverage.impossible_met();
+    for what in &impossible {
+        println!("met and cannot be: {what}");
+    }
     for difference in &report.shown {
         print!("{difference}");
     }
@@ -302,7 +306,7 @@ fn finish(report: &Report) -> ExitCode {
         report.compared(),
         report.differences
     );
-    match report.differences == 0 && missing.is_empty() {
+    match report.differences == 0 && missing.is_empty() && impossible.is_empty() {
         true => ExitCode::SUCCESS,
         false => ExitCode::FAILURE,
     }

@@ -79,10 +79,10 @@ impl Frames {
 fn vectors(folder: &Path, seed: u64, sheets: usize, routes: usize) -> io::Result<ExitCode> {
     let mut frames = Frames::default();
     for case in cases() {
-        print!("case {:<19} {}", case.name, line(&case.draft.input()));
+        print!("case {:<21} {}", case.name, line(&case.draft.input()));
     }
     print!(
-        "case {:<19} {}",
+        "case {:<21} {}",
         "A, three sections",
         route_line(&worked_route())
     );
@@ -146,7 +146,11 @@ fn finish(coverage: &Coverage, scope: Scope) -> ExitCode {
     for what in &missing {
         println!("never met: {what}");
     }
-    match missing.is_empty() {
+    let impossible = coverage.impossible_met();
+    for what in &impossible {
+        println!("met and cannot be: {what}");
+    }
+    match missing.is_empty() && impossible.is_empty() {
         true => ExitCode::SUCCESS,
         false => ExitCode::FAILURE,
     }

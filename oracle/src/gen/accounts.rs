@@ -2,6 +2,7 @@
 
 use super::damage::{flip_bytes, Span};
 use super::draft::bytes;
+use super::lengths::BOUNDS;
 use super::trains::{plain_train, train, Size};
 use crate::account::{Account, ACCOUNT, NO_SETTING};
 use crate::offered::probes;
@@ -18,7 +19,7 @@ const fn figure(at: usize, width: usize, high: u64) -> Span {
 }
 
 /// Every figure, mark and setting of the 128-byte record with its ceiling.
-pub const FIGURES: [Span; 24] = [
+pub const FIGURES: [Span; 25] = [
     figure(0, 4, 200),
     figure(4, 4, 500_000),
     figure(8, 4, 500_000),
@@ -43,13 +44,14 @@ pub const FIGURES: [Span; 24] = [
     figure(66, 1, 4),
     figure(67, 1, 4),
     figure(68, 1, 4),
+    figure(69, 4, 200_000),
 ];
 
 /// The first byte that no figure has; it and those behind it are 0.
-pub const UNUSED: usize = 69;
+pub const UNUSED: usize = 73;
 
-/// The figures that joining adds up; runs may be added too.
-const SUMS: usize = 14;
+/// The figures that joining adds up, by their places in the table; runs may be added too.
+const SUMS: [usize; 15] = [0, 1, 2, 3, 4, 5, 6, 7, 8, 9, 10, 11, 12, 13, 24];
 
 pub type AccountBytes = [u8; ACCOUNT];
 
@@ -114,12 +116,13 @@ pub fn plausible(random: &mut Random) -> Account {
     let (braked_v, braked_m) = plausible_brakes(random, mass);
     let first = plausible_settings(random, mass > 12_000);
     let in_m = first.iter().filter(|&&setting| setting == SET_TO_M).count() as u32;
+    let length = near(random, &[1_500, 4_000, 5_000, 5_200, 6_800, 7_000]);
     Account {
         count: random.pick(&[1, 2, 4, 5, 6, 20, 100, 198, 199]),
         mass,
         braked_v,
         braked_m,
-        length: near(random, &[1_500, 4_000, 5_000, 5_200, 6_800, 7_000]),
+        length,
         axles: near(random, &[40, 200, 246]),
         axles_v: near(random, &[4, 8, 12]),
         engines: random.pick(&[0, 0, 0, 1, 2, 3, 5, 6]),
@@ -135,6 +138,16 @@ pub fn plausible(random: &mut Random) -> Account {
         rule_18: mark(random),
         slowest: random.pick(&[0, 1, 80, 90, 91, 100, 100, 120, 120, 200]),
         first,
+        length_v: plausible_length_v(random, length),
+    }
+}
+
+/// All of the length, about a begun 20 m, or what no train has.
+fn plausible_length_v(random: &mut Random, length: u32) -> u32 {
+    match random.below(8) {
+        0..2 => length,
+        2..4 => random.pick(&[0, 7_200, 7_201, 20_000, 199_999, 200_000]),
+        _ => (i64::from(random.pick(&BOUNDS)) + random.around()) as u32,
     }
 }
 
@@ -207,8 +220,7 @@ pub fn pair_at_ceiling(random: &mut Random) -> (AccountBytes, AccountBytes) {
         fill_with_runs(random, &mut right);
     }
     for _ in 0..random.pick(&[1, 1, 1, 2]) {
-        let place = random.below(SUMS);
-        let span = &FIGURES[place];
+        let span = &FIGURES[random.pick(&SUMS)];
         let one = random.draw() % (span.high + 1);
         let other = span.high - one + random.pick(&[0, 0, 1]);
         span.write(&mut left, one.saturating_sub(u64::from(random.percent(20))));

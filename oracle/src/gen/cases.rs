@@ -28,6 +28,7 @@ pub fn cases() -> Vec<Case> {
         4_999, 5_000, 5_001, 5_199, 5_200, 5_201, 6_999, 7_000, 7_001,
     ] {
         add(format!("E {length}"), case_e(length));
+        add(format!("E {length}, 400 isolated"), case_e_beside(length));
     }
     for mass in [7_999, 8_000, 8_001] {
         add(format!("F {mass}"), case_f(mass));
@@ -119,9 +120,23 @@ fn case_d(above: usize) -> Draft {
     draft
 }
 
+/// All ten wagons are set to V, so the length is theirs.
 fn case_e(length: i64) -> Draft {
     let mut draft = case_a();
     aim(&mut draft.hauled, LENGTH, length);
+    draft
+}
+
+/// The same with forty isolated metres in the middle, which leave k as it was.
+fn case_e_beside(length: i64) -> Draft {
+    let mut draft = case_e(length);
+    let isolated = Vehicle {
+        length: 400,
+        setting: ISOLATED,
+        ..draft.hauled[5]
+    };
+    draft.hauled.insert(5, isolated);
+    draft.renumber();
     draft
 }
 
@@ -170,6 +185,13 @@ mod tests {
         sheet
     }
 
+    /// Lengths of case E with their k.
+    const CASE_E: [(i64, u32); 5] = [(5_000, 0), (5_001, 1), (5_200, 1), (5_201, 2), (7_000, 10)];
+
+    fn braked(sheet: &[u8; 32]) -> u32 {
+        u32::from_le_bytes([sheet[24], sheet[25], sheet[26], sheet[27]])
+    }
+
     fn margin(draft: &Draft) -> i64 {
         CATEGORIES[0].margin(&draft.facts(), &draft.order)
     }
@@ -204,13 +226,27 @@ mod tests {
 
     #[test]
     fn case_e_deducts_k_percent() {
-        for (length, k) in [(5_000, 0), (5_001, 1), (5_200, 1), (5_201, 2), (7_000, 10)] {
+        for (length, k) in CASE_E {
             let sheet = sheet(&case_e(length));
-            let braked = u32::from_le_bytes([sheet[24], sheet[25], sheet[26], sheet[27]]);
-            assert_eq!(braked, 6_000 - 60 * k, "{length}");
+            assert_eq!(braked(&sheet), 6_000 - 60 * k, "{length}");
             assert_eq!(sheet[3], 0);
         }
         assert_eq!(sheet(&case_e(7_001))[3..9], [22; 6]);
+    }
+
+    /// The isolated wagon's 60 t cost 77 percent of themselves, 46.2 t or 184,800 four-thousandths, and no braked mass.
+    #[test]
+    fn forty_isolated_metres_leave_k_as_it_was() {
+        for (length, k) in CASE_E {
+            let beside = case_e_beside(length);
+            let sheet = sheet(&beside);
+            assert_eq!(braked(&sheet), 6_000 - 60 * k, "{length}");
+            assert_eq!(margin(&case_e(length)) - margin(&beside), 184_800);
+            assert_eq!(sheet[15], 1);
+            // The hauled part has them too, and 740 m in all are past rule 21 with the engine.
+            let long = if length == 7_000 { 21 } else { 0 };
+            assert_eq!(sheet[3], long, "{length}");
+        }
     }
 
     #[test]

@@ -1,14 +1,14 @@
 //! Changes that bring a train to a boundary: at it, one below or one above.
 
 use super::draft::{aim, Draft, AXLES, BRAKED_M, BRAKED_V, LENGTH, MASS};
-use super::margins;
+use super::{lengths, margins};
 use crate::random::Random;
 use crate::vehicle::{Vehicle, HAULED_ENGINE, ISOLATED, SET_TO_M, SET_TO_R, SET_TO_V, WAGON};
 
 type Edge = fn(&mut Random, &mut Draft);
 
 /// Those that decide most stand more than once.
-const EDGES: [Edge; 29] = [
+const EDGES: [Edge; 32] = [
     margins::aim_odd_margin,
     margins::aim_odd_margin,
     margins::aim_margin,
@@ -16,7 +16,10 @@ const EDGES: [Edge; 29] = [
     margins::aim_margin,
     hauled_mass,
     hauled_mass,
-    hauled_length,
+    lengths::v_length,
+    lengths::v_length,
+    lengths::v_length,
+    lengths::v_length,
     hauled_length,
     train_length,
     axles,
@@ -50,14 +53,9 @@ fn hauled_mass(random: &mut Random, draft: &mut Draft) {
     aim(&mut draft.hauled, MASS, mass);
 }
 
-/// Rule 22, and k at each begun 20 m.
+/// Rule 22.
 fn hauled_length(random: &mut Random, draft: &mut Draft) {
-    let begun = random.pick(&[0, 0, 1, 1, 2, 3, 4, 5, 6, 7, 8, 9, 10, 10]);
-    aim(
-        &mut draft.hauled,
-        LENGTH,
-        5_000 + 200 * begun + random.around(),
-    );
+    aim(&mut draft.hauled, LENGTH, 7_000 + random.around());
 }
 
 /// Rule 21, most often with a hauled part that does not break 22.

@@ -1,7 +1,7 @@
 //! Rule 47 and bytes 10 to 12: braked masses that give a chosen margin exactly.
 
 use super::draft::{aim, Draft, BRAKED_M, BRAKED_V, LENGTH, MASS};
-use crate::category::begun_20_m;
+use crate::category::deduction;
 use crate::random::Random;
 use crate::vehicle::{Vehicle, SET_TO_M, SET_TO_V};
 
@@ -18,7 +18,8 @@ pub fn aim_margin(random: &mut Random, draft: &mut Draft) {
 
 /// An odd margin needs three quarters of an odd M mass and an odd k, so a heavy train of categories 1 to 3.
 pub fn aim_odd_margin(random: &mut Random, draft: &mut Draft) {
-    if draft.hauled.len() < 6 {
+    // Five in M, and seven in V that reach 680 m.
+    if draft.hauled.len() < 12 {
         return aim_margin(random, draft);
     }
     for (place, vehicle) in draft.hauled.iter_mut().enumerate() {
@@ -30,7 +31,9 @@ pub fn aim_odd_margin(random: &mut Random, draft: &mut Draft) {
     aim(&mut draft.hauled, MASS, random.between(12_001, 15_800));
     let begun = random.pick(&[1, 3, 5, 7, 9]);
     let length = 4_800 + 200 * begun + random.between(1, 200);
-    aim(&mut draft.hauled, LENGTH, length);
+    let beside = random.between(5, 7_000 - length);
+    aim(set_to(&mut draft.hauled, SET_TO_V), LENGTH, length);
+    aim(set_to(&mut draft.hauled, SET_TO_M), LENGTH, beside);
     draft.order.asked = random.pick(&[1, 2, 3]);
     let category = usize::from(draft.order.asked);
     bring(random, draft, category, |random| {
@@ -64,7 +67,7 @@ fn wanted(random: &mut Random) -> i64 {
     }
 }
 
-fn set_to(vehicles: &mut [Vehicle], setting: u8) -> impl Iterator<Item = &mut Vehicle> {
+pub fn set_to(vehicles: &mut [Vehicle], setting: u8) -> impl Iterator<Item = &mut Vehicle> {
     vehicles
         .iter_mut()
         .filter(move |vehicle| vehicle.setting == setting)
@@ -89,7 +92,7 @@ impl Puzzle {
     fn new(draft: &Draft, category: usize) -> Puzzle {
         let facts = draft.facts();
         let (weight_m, kept) = match category {
-            1..=3 => (3, 100 - begun_20_m(facts.hauled_length).min(10)),
+            1..=3 => (3, 100 - deduction(facts.hauled_length_v)),
             _ => (4, 100),
         };
         let sum = |vehicles: &[Vehicle], setting: u8, value: fn(&Vehicle) -> i64| -> i64 {

@@ -5,6 +5,7 @@ pub mod cases;
 pub mod damage;
 pub mod draft;
 pub mod edges;
+pub mod lengths;
 pub mod margins;
 pub mod mixture;
 pub mod numbers;

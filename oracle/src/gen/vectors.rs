@@ -1,7 +1,9 @@
-//! Inputs of SHEET and ROUTE for files of cases: the page's first, slipped vehicle numbers, then random ones, most of them short.
+//! Inputs of SHEET and ROUTE for files of cases: the page's first, slipped vehicle numbers, lengths that k counts, then random
+//! ones, most of them short.
 
 use super::cases::{case_a, cases, worked_route};
 use super::draft::Draft;
+use super::lengths::swept_lengths;
 use super::mixture::train_call;
 use super::numbers::{closed, seated, two_engines};
 use super::routes::{route_call, swept_journey, written};
@@ -19,6 +21,7 @@ pub fn inputs(seed: u64, count: usize) -> Vec<Vec<u8>> {
     let mut inputs: Vec<Vec<u8>> = cases().iter().map(|case| case.draft.input()).collect();
     inputs.extend(odd_lengths());
     inputs.extend(numbered(seed).iter().map(Draft::input));
+    inputs.extend(swept_lengths(seed).iter().map(Draft::input));
     let random = inputs.len() as u64..count as u64;
     inputs.extend(random.map(|index| random_input(&mut Random::for_case(seed, index))));
     inputs.truncate(count);
@@ -84,7 +87,8 @@ fn random_input(random: &mut Random) -> Vec<u8> {
     input
 }
 
-/// Inputs of ROUTE: the worked one, odd ones, what is swept, slipped numbers, then random ones up to the count.
+/// Inputs of ROUTE: the worked one, odd ones, what is swept, slipped numbers, lengths that k counts, then random ones up to the
+/// count.
 pub fn route_inputs(seed: u64, count: usize) -> Vec<Vec<u8>> {
     let mut inputs = vec![worked_route()];
     inputs.extend(odd_routes());
@@ -94,6 +98,10 @@ pub fn route_inputs(seed: u64, count: usize) -> Vec<Vec<u8>> {
     }
     for draft in numbered(!seed) {
         inputs.extend(route_input(seated(Function::RouteOfTrain, &draft)));
+    }
+    for (draft, more) in swept_lengths(!seed).iter().zip([0, 1, 2].iter().cycle()) {
+        let orders = written(&vec![draft.order; 1 + more]);
+        inputs.push([&[1 + *more as u8], &orders[..], &draft.vehicles()].concat());
     }
     let mut index = 1_000_000;
     while inputs.len() < count {

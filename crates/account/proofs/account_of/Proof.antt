@@ -24,7 +24,7 @@ use Rattle.account.proofs.account_of.Lts as lts
 use Rattle.account.proofs.refused.Reads as refused-reads
 use Rattle.account.proofs.gather.none_yet.Reads as none-yet-reads
 use Rattle.account.proofs.engine_or_bad.Reads as engine-or-bad-reads
-use Rattle.account.proofs.gather.add_at.Reads as add-at-reads
+use Rattle.account.proofs.gather.add_by_setting.Reads as add-by-setting-reads
 use Rattle.account.proofs.gather.set_at.Reads as set-at-reads
 use Rattle.account.proofs.gather.with_one.Reads as with-one-reads
 use Rattle.account.proofs.gather.account_from.Reads as account-from-reads
@@ -32,13 +32,13 @@ use Rattle.account.proofs.done.Reads as done-reads
 use Rattle.record.proofs.vehicle.read.Reads as read-reads
 
 abbrev Inv-loop : tie.InvT-loop
-Inv-loop portion n running₀ counts₀ vmasses₀ mmasses₀ axles₀ first₀ i₀ running counts vmasses mmasses axles first i =
+Inv-loop portion n running₀ sums₀ first₀ i₀ running sums first i =
     (i ≤ n)
     × (all good (records i portion) ≡ true)
-    × Gathered (map vehicle (records i portion)) running counts vmasses mmasses axles first
+    × Gathered (map vehicle (records i portion)) running sums first
 
 abbrev μ-loop : tie.MeasureT-loop
-μ-loop portion n running₀ counts₀ vmasses₀ mmasses₀ axles₀ first₀ i₀ running counts vmasses mmasses axles first i = n - i
+μ-loop portion n running₀ sums₀ first₀ i₀ running sums first i = n - i
 
 refused-requires : tie.Need-refused-requires Inv-loop μ-loop
 refused-requires c κs = search needs
@@ -58,7 +58,7 @@ none-yet-requires c κs = search needs
 loop-holds : tie.Need-loop-holds Inv-loop μ-loop
 unfolding all records
 loop-holds c =
-    (omega arith, refl, record { each = tt; running = c .none-yet .ensures; count = refl; vmass = refl; mmass = refl; vaxles = refl; five = refl })
+    (omega arith, refl, record { each = tt; running = c .none-yet .ensures; table = refl; five = refl })
 
 mul-at : tie.Need-mul-at Inv-loop μ-loop
 mul-at c = search needs
@@ -115,55 +115,43 @@ returns-4 c =
 
 -- the record at `i` was read, and is no working engine
 abbrev Here : Type 0
-Here = lts.Else3 (refused-reads.Asked, refused-reads.Learnt, none-yet-reads.Asked, none-yet-reads.Learnt, read-reads.Asked, read-reads.Learnt, engine-or-bad-reads.Asked, engine-or-bad-reads.Learnt, add-at-reads.Asked, add-at-reads.Learnt, set-at-reads.Asked, set-at-reads.Learnt, with-one-reads.Asked, with-one-reads.Learnt, account-from-reads.Asked, account-from-reads.Learnt, done-reads.Asked, done-reads.Learnt) reads.Pre reads.Post Inv-loop μ-loop
+Here = lts.Else3 (refused-reads.Asked, refused-reads.Learnt, none-yet-reads.Asked, none-yet-reads.Learnt, read-reads.Asked, read-reads.Learnt, engine-or-bad-reads.Asked, engine-or-bad-reads.Learnt, add-by-setting-reads.Asked, add-by-setting-reads.Learnt, set-at-reads.Asked, set-at-reads.Learnt, with-one-reads.Asked, with-one-reads.Learnt, account-from-reads.Asked, account-from-reads.Learnt, done-reads.Asked, done-reads.Learnt) reads.Pre reads.Post Inv-loop μ-loop
 
 here : (e : Here)
     → let l = e .before .before .before .before .before .before .before .before .loop in
-    Turn (now (e .before .before .before .before .before .before .before .before .before .before .before .before .before .args .portion)) (l .i) (e .before .before .before .vehicle .given .0 .0) (l .running) (l .counts) (l .vmasses) (l .mmasses) (l .axles) (l .first)
+    Turn (now (e .before .before .before .before .before .before .before .before .before .before .before .before .before .args .portion)) (l .i) (e .before .before .before .vehicle .given .0 .0) (l .running) (l .sums) (l .first)
 here e =
     let s = e .before .before .before .before .before .before .before .before in
-    turn (now (s .before .before .before .before .before .args .portion)) (s .loop .i) _ (sym (e .before .before .before .vehicle .given .1) ∙ e .before .before .before .before .before .read .ensures) (e .if3 .left) (omega (arith, s .before .before .if2 .left)) _ _ _ _ _ _ (s .loop .inv .2)
+    turn (now (s .before .before .before .before .before .args .portion)) (s .loop .i) _ (sym (e .before .before .before .vehicle .given .1) ∙ e .before .before .before .before .before .read .ensures) (e .if3 .left) (omega (arith, s .before .before .if2 .left)) _ _ _ (s .loop .inv .2)
 
-add-at-requires : tie.Need-add-at-requires Inv-loop μ-loop
-add-at-requires c κs = here (c .before) .count
-
-add-at-requires-2 : tie.Need-add-at-requires-2 Inv-loop μ-loop
-add-at-requires-2 c κs = here (c .before .before .before) .vmass
-
-add-at-requires-3 : tie.Need-add-at-requires-3 Inv-loop μ-loop
-add-at-requires-3 c κs = here (c .before .before .before .before .before) .mmass
-
-add-at-requires-4 : tie.Need-add-at-requires-4 Inv-loop μ-loop
-add-at-requires-4 c κs = here (c .before .before .before .before .before .before .before) .vaxles
+add-by-setting-requires : tie.Need-add-by-setting-requires Inv-loop μ-loop
+add-by-setting-requires c κs = here (c .before) .table
 
 set-at-requires : tie.Need-set-at-requires Inv-loop μ-loop
-set-at-requires c κs = here (c .before .before .before .before .before .before .before .before .before) .five
+set-at-requires c κs = here (c .before .before .before) .five
 
 with-one-requires : tie.Need-with-one-requires Inv-loop μ-loop
-with-one-requires c κs = here (c .before .before .before .before .before .before .before .before .before .before) .room
+with-one-requires c κs = here (c .before .before .before .before) .room
 
 add-i : tie.Need-add-i Inv-loop μ-loop
 add-i c =
-    let e = c .before .before .before .before .before .before .before .before .before .before .before in
+    let e = c .before .before .before .before .before in
     omega (arith, e .before .before .before .before .before .before .before .loop-test .taken, e .before .before .before .before .before .before .before .before .before .before .if2 .left)
 
 loop-less : tie.Need-loop-less Inv-loop μ-loop
-loop-less c = omega (arith, c .before .before .before .before .before .before .before .before .before .before .before .before .before .before .before .before .before .before .loop-test .taken)
+loop-less c = omega (arith, c .before .before .before .before .before .before .before .before .before .before .before .before .loop-test .taken)
 
 loop-again : tie.Need-loop-again Inv-loop μ-loop
 loop-again c =
-    let e = c .before .before .before .before .before .before .before .before .before .before .before in
+    let e = c .before .before .before .before .before in
     let s = e .before .before .before .before .before .before .before .before in
     let bs = now (s .before .before .before .before .before .args .portion) in
     let l = s .loop in
     let t = here e in (
       omega (arith, e .before .before .before .before .before .before .before .loop-test .taken),
       records-more bs (l .i) (l .inv .1) (t .fine),
-      gathered-more bs (l .i) _ (t .says) (t .hauled) (l .running) _ _ _ _ _ _ _ _ _ _ _ (l .inv .2)
-          (c .before .before .before .before .before .before .before .before .before .add-at .ensures)
-          (c .before .before .before .before .before .before .before .add-at2 .ensures)
-          (c .before .before .before .before .before .add-at3 .ensures)
-          (c .before .before .before .add-at4 .ensures)
+      gathered-more bs (l .i) _ (t .says) (t .hauled) (l .running) _ _ _ _ _ (l .inv .2)
+          (c .before .before .before .add-by-setting .ensures)
           (c .before .set-at .ensures)
           (c .with-one .ensures),
     )
@@ -214,10 +202,7 @@ account-of-spec =
     engine-or-bad-requires
     refused-requires-4
     returns-4
-    add-at-requires
-    add-at-requires-2
-    add-at-requires-3
-    add-at-requires-4
+    add-by-setting-requires
     set-at-requires
     with-one-requires
     add-i

@@ -66,10 +66,13 @@ shared-slice-read-t27 c = search needs
 figure-requires-15 : tie.Need-figure-requires-15
 figure-requires-15 c κs = search needs
 
+figure-requires-16 : tie.Need-figure-requires-16
+figure-requires-16 c κs = search needs
+
 returns : tie.Need-returns
 unfolding accountIn
 returns c =
-    let f14 = c .before .before .before .before .before in
+    let f14 = c .before .before .before .before .before .before in
     let f13 = f14 .before in
     let f12 = f13 .before in
     let f11 = f12 .before in
@@ -104,8 +107,9 @@ returns c =
       rule16 = byteAt 57 bs is 1;
       rule17 = byteAt 58 bs is 1;
       rule18 = byteAt 59 bs is 1;
-      slowest = c .figure15 .ensures i;
+      slowest = c .before .figure15 .ensures i;
       first = f1 .before .first-in .ensures i;
+      vlength = c .figure16 .ensures i;
     }
 
 pub account-in-spec : {M : Type 1} → statement M
@@ -132,4 +136,5 @@ account-in-spec =
     shared-slice-read-t24
     shared-slice-read-t27
     figure-requires-15
+    figure-requires-16
     returns)

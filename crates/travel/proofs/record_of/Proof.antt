@@ -119,9 +119,13 @@ setting-byte-requires-5 c κs = search needs
 array-write-bytes-9 : tie.Need-array-write-bytes-9
 array-write-bytes-9 c = search needs
 
+put-figure-requires-16 : tie.Need-put-figure-requires-16
+put-figure-requires-16 c κs = search needs
+
 returns : tie.Need-returns
 returns c =
-    let s1 = c .before .before .before .before in
+    let s5 = c .before .before in
+    let s1 = s5 .before .before .before .before in
     let m4 = s1 .before .before .before in
     let f14 = m4 .before .before .before .before in
     let f13 = f14 .before .before in
@@ -153,7 +157,8 @@ returns c =
     let e14 = f14 .put-figure14 .ensures ∙ placed 52 _ e13 in
     let m = stored 59 (stored 58 (stored 57 (stored 56 e14 (m4 .before .before .before .mark-of .ensures)) (m4 .before .before .mark-of2 .ensures)) (m4 .before .mark-of3 .ensures)) (m4 .mark-of4 .ensures) in
     let e15 = s1 .before .put-figure15 .ensures ∙ placed 60 _ m in
-    stored 68 (stored 67 (stored 66 (stored 65 (stored 64 e15 (s1 .setting-byte .ensures)) (c .before .before .before .setting-byte2 .ensures)) (c .before .before .setting-byte3 .ensures)) (c .before .setting-byte4 .ensures)) (c .setting-byte5 .ensures)
+    let f = stored 68 (stored 67 (stored 66 (stored 65 (stored 64 e15 (s1 .setting-byte .ensures)) (s5 .before .before .before .setting-byte2 .ensures)) (s5 .before .before .setting-byte3 .ensures)) (s5 .before .setting-byte4 .ensures)) (s5 .setting-byte5 .ensures) in
+    c .put-figure16 .ensures ∙ placed 69 _ f
 
 pub record-of-spec : {M : Type 1} → statement M
 record-of-spec =
@@ -197,4 +202,5 @@ record-of-spec =
     array-read-setting-byte-5
     setting-byte-requires-5
     array-write-bytes-9
+    put-figure-requires-16
     returns)

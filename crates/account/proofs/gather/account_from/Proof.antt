@@ -38,6 +38,12 @@ cast-engines-ahead c =
     let bs = now (c .before .before .before .args .portion) in
     omega (arith, c .before .before .before .pre .0, c .leading-engines .ensures, leading-le isHauledEngine (vehicles bs), length-vehicles (recordCount bs) bs)
 
+array-read-t13 : tie.Need-array-read-t13
+array-read-t13 c = search needs
+
+array-read-t16 : tie.Need-array-read-t16
+array-read-t16 c = search needs
+
 array-read-t19 : tie.Need-array-read-t19
 array-read-t19 c = search needs
 
@@ -47,14 +53,11 @@ array-read-t22 c = search needs
 array-read-t25 : tie.Need-array-read-t25
 array-read-t25 c = search needs
 
-array-read-t28 : tie.Need-array-read-t28
-array-read-t28 c = search needs
+array-read-t29 : tie.Need-array-read-t29
+array-read-t29 c = search needs
 
-array-read-t31 : tie.Need-array-read-t31
-array-read-t31 c = search needs
-
-array-read-t35 : tie.Need-array-read-t35
-array-read-t35 c = search needs
+array-read-t34 : tie.Need-array-read-t34
+array-read-t34 c = search needs
 
 returns : tie.Need-returns
 unfolding accountOf runningOf
@@ -67,14 +70,14 @@ returns c =
     record {
       count = n i;
       mass = g .running i .mass;
-      vmass = getD (g .vmass i) 2 0;
-      mmass = getD (g .mmass i) 1 0;
+      vmass = getD (g .table i) 6 0;
+      mmass = getD (g .table i) 9 0;
       length = g .running i .length;
       axles = g .running i .axles;
-      vaxles = getD (g .vaxles i) 2 0;
+      vaxles = getD (g .table i) 14 0;
       engines = g .running i .engines;
-      mset = getD (g .count i) 1 0;
-      isolated = getD (g .count i) 0 0;
+      mset = getD (g .table i) 1 0;
+      isolated = getD (g .table i) 0 0;
       dloads = g .running i .dloads;
       leading = c .before .before .before .leading-isolated .ensures i;
       trailing = g .running i .trailing;
@@ -82,11 +85,12 @@ returns c =
       behind =
           (ap₂ ltb (c .before .before .leading-engines .ensures) (ap (λ (a : Running). a .engines) (g .running))
           ∙ sym (behind-ahead (vehicles bs) (each-hauled (vehicles bs) (g .each)))) i;
-      rule16 = (ap (λ (l : List ℕ). ltb 0 (getD l 3 0)) (g .count) ∙ sym (some-count isR (vehicles bs))) i;
+      rule16 = (ap (λ (l : List ℕ). ltb 0 (getD l 3 0)) (g .table) ∙ sym (some-count isR (vehicles bs))) i;
       rule17 = (ap₂ ltb (ap (λ (a : Running). a .joined) (g .running)) n ∙ sym (lack-count isJoined (vehicles bs))) i;
       rule18 = g .running i .rule18;
       slowest = g .running i .slowest;
       first = g .five i;
+      vlength = getD (g .table i) 18 0;
     }
 
 pub account-from-spec : {M : Type 1} → statement M
@@ -98,10 +102,11 @@ account-from-spec =
     cast-leading
     leading-engines-requires
     cast-engines-ahead
+    array-read-t13
+    array-read-t16
     array-read-t19
     array-read-t22
     array-read-t25
-    array-read-t28
-    array-read-t31
-    array-read-t35
+    array-read-t29
+    array-read-t34
     returns)

@@ -72,10 +72,15 @@ greater-requires-2 c κs = search needs
 lesser-requires : tie.Need-lesser-requires
 lesser-requires c κs = search needs
 
+sum-requires-13 : tie.Need-sum-requires-13
+sum-requires-13 c κs =
+    let s = c .before .before .before .before .before .before .before .before .before .before .before .before .before .before .before .before .before .before .before .before .before .before .before .before .before .before .before .before .before .before in
+    omega (arith, figure-at (s .args .left) (s .pre .0) 20, figure-at (s .args .right) (s .pre .1) 20)
+
 returns : tie.Need-returns
 unfolding joining
 returns c =
-    let r = c .before .before .before .before .before .before .before .before .before .before .before in
+    let r = c .before .before .before .before .before .before .before .before .before .before .before .before in
     let s = r .before .before .before .before .before in
     simp (
       s .before .before .before .before .before .before .before .before .before .before .before .fill-first .ensures,
@@ -95,7 +100,8 @@ returns c =
       r .before .before .greater .ensures,
       r .before .sum12 .ensures,
       r .greater2 .ensures,
-      c .lesser .ensures,
+      c .before .lesser .ensures,
+      c .sum13 .ensures,
     )
 
 pub add-spec : {M : Type 1} → statement M
@@ -120,4 +126,5 @@ add-spec =
     sum-requires-12
     greater-requires-2
     lesser-requires
+    sum-requires-13
     returns)

@@ -1,0 +1,3 @@
+pub mod Speeds
+pub mod Unique
+pub mod Demands
