@@ -92,8 +92,9 @@ pub dload-le : (v : Vehicle) → GoodHauled v → v .dload ≤ 1
 unfolding vehicle
 dload-le = field-le (λ v. v .dload) 11 (omega arith) (λ r. refl)
 
+-- a line each of what holds of every member of a list
 infixr 1 _⊗_
-_⊗_ : {A B : Type 0} → A → B → A × B
+pub _⊗_ : {A B : Type 0} → A → B → A × B
 a ⊗ b = (a, b)
 
 -- the account of at most 200 good hauled records is within its ceilings

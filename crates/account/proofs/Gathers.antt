@@ -23,7 +23,7 @@ use Rattle.account.specs.Gathering.{runningOf, withOne, Room, setTo, byS
 use Rattle.account.specs.declared.gather.Running.{Running}
 use Rattle.record.proofs.Lists.{every-append, every-map, every-at, every-set}
 use Rattle.record.proofs.Figures.{some-append, trailing-append, longest-append, least-append, least-top, sum-le, count-le, cond-le, leading-le, some-count, sum-one, count-one, trailing-longest, firsts-one, firsts-length}
-use Rattle.account.proofs.Ceils.{mass-le, vmass-le, mmass-le, length-le, axles-le, setting-le, joined-le, dload-le}
+use Rattle.account.proofs.Ceils.{_⊗_, mass-le, vmass-le, mmass-le, length-le, axles-le, setting-le, joined-le, dload-le}
 use Rattle.account.proofs.Portions.{read-good}
 
 -- an engine stands behind a wagon where not all of them lead
@@ -106,10 +106,16 @@ module _ (f : Vehicle → ℕ) (xs : List Vehicle) where
   by-small : Small f → Every GoodHauled xs → Every (λ x. x ≤ 2500 * length xs) (bySetting f xs)
   by-small small each =
       let part : (k : ℕ) → sum (setTo k f) xs ≤ 2500 * length xs = λ k. sum-le GoodHauled (setTo k f) 2500 (λ v d. cond-le (eqb (v .setting) k) (f v) 2500 (small v d)) xs each in
-      (part 0, (part 1, (part 2, (part 3, tt))))
+      part 0 ⊗ part 1 ⊗ part 2 ⊗ part 3 ⊗ tt
 
 summed-small : Every Small summed
-summed-small = ((λ v d. omega arith), (vmass-le, (mmass-le, ((λ v d. omega (arith, axles-le v d)), ((λ v d. omega (arith, length-le v d)), tt)))))
+summed-small =
+    (λ v d. omega arith)
+    ⊗ vmass-le
+    ⊗ mmass-le
+    ⊗ (λ v d. omega (arith, axles-le v d))
+    ⊗ (λ v d. omega (arith, length-le v d))
+    ⊗ tt
 
 -- ---- the sums of all that is summed by setting
 -- additions behind the first four leave those as they are

@@ -71,7 +71,7 @@ pub rule-47 : (c : Category) (f : Facts) (o : Order) → caseAt 0 (rulesOf cross
 unfolding crossBorder termsOf
 rule-47 c f o = refl
 
--- 46, which 22 comes before in every train, asks for more than 10 begun 20 m of the hauled set to V in 1 to 3
+-- 46 asks for more than 10 begun 20 m of the hauled vehicles set to V in 1 to 3
 pub rule-46 : (c : Category) (f : Facts) (o : Order) → caseAt 0 (rulesOf crossBorder c f o) 20 ≡ rule 46 (not (c .isg) && begunOf (f .hauledVLength) above 10)
 unfolding crossBorder termsOf
 rule-46 c f o = refl
