@@ -1,5 +1,6 @@
 //! The library against the model: answers and every byte of the lent buffers.
 
+use std::fmt::Arguments;
 use std::sync::atomic::{AtomicU64, Ordering};
 
 use crate::account::ACCOUNT;
@@ -51,6 +52,16 @@ impl Report {
 
     pub fn routes(&self) -> u64 {
         self.kinds[6..9].iter().sum()
+    }
+
+    /// Counts a case that has something wrong, and writes out the first of it.
+    pub(crate) fn close(&mut self, name: Arguments, wrong: &[String]) {
+        if let Some(first) = wrong.first() {
+            self.differences += 1;
+            if self.shown.len() < SHOWN {
+                self.shown.push(format!("difference: {name}\n{first}"));
+            }
+        }
     }
 
     pub fn add(&mut self, other: Report) {
@@ -123,26 +134,20 @@ impl<S: Side> Run<'_, S> {
     fn close(&self, report: &mut Report, kind: usize, name: &str, index: u64, wrong: Vec<String>) {
         report.kinds[kind] += 1;
         self.done.fetch_add(1, Ordering::Relaxed);
-        if let Some(first) = wrong.first() {
-            report.differences += 1;
-            if report.shown.len() < SHOWN {
-                let seed = self.seed;
-                let text = format!("difference: seed {seed}, {name} index {index}\n{first}");
-                report.shown.push(text);
-            }
-        }
+        let seed = self.seed;
+        report.close(format_args!("seed {seed}, {name} index {index}"), &wrong);
     }
 }
 
 /// The calls that belong to one index.
-struct Case<'a, S: Side> {
+pub(crate) struct Case<'a, S: Side> {
     library: &'a S,
     report: &'a mut Report,
-    wrong: Vec<String>,
+    pub(crate) wrong: Vec<String>,
 }
 
 impl<'a, S: Side> Case<'a, S> {
-    fn new(library: &'a S, report: &'a mut Report) -> Case<'a, S> {
+    pub(crate) fn new(library: &'a S, report: &'a mut Report) -> Case<'a, S> {
         Case {
             library,
             report,
@@ -234,7 +239,7 @@ impl<'a, S: Side> Case<'a, S> {
     }
 
     /// Runs both sides, and hands back what the model gave.
-    fn compare(&mut self, call: &Call) -> (u64, [u8; BUFFER]) {
+    pub(crate) fn compare(&mut self, call: &Call) -> (u64, [u8; BUFFER]) {
         let (model, expected) = call.outcome(&Model);
         let (library, found) = call.outcome(self.library);
         self.report.calls += 1;
@@ -388,7 +393,7 @@ fn sheet_call(route: &Call) -> Call {
     }
 }
 
-fn shown(answer: u64) -> String {
+pub(crate) fn shown(answer: u64) -> String {
     let (number, place, category) = parts(answer);
     format!("number {number} place {place} category {category}")
 }
@@ -399,8 +404,13 @@ mod tests {
     use crate::call::{Function, FUNCTIONS};
     use crate::category::{begun_20_m, Category, CATEGORIES};
     use crate::facts::Facts;
+    use crate::gen::damage::Span;
     use crate::gen::numbers::{LEAST, PAST};
     use crate::lengths::{done, shown_by_function, Reading};
+    use crate::page::tests::page_rows;
+    use crate::page::RecordOf;
+    use crate::precedence::refusals;
+    use crate::ranges::hold;
     use crate::route::{sections, speed_on, speeds};
     use crate::vehicle::{digits, is_number, is_working, Vehicle};
 
@@ -432,6 +442,8 @@ mod tests {
         Length(Function, Reading),
         LengthNotJoined,
         DeductionNotHeld,
+        /// A field's range as it is, and as this function reads it.
+        Range(Function, RecordOf, [Span; 2]),
     }
 
     impl Slip {
@@ -477,9 +489,28 @@ mod tests {
             }
         }
 
+        /// The records as one with this slip judges a field of theirs.
+        fn ranged(self, function: Function, of: RecordOf, records: &[u8]) -> Vec<u8> {
+            let mut ranged = records.to_vec();
+            let Slip::Range(one, whose, [right, wrong]) = self else {
+                return ranged;
+            };
+            if (one, whose) == (function, of) {
+                for record in ranged.chunks_exact_mut(ORDER) {
+                    let value = right.read(record);
+                    match (wrong.has(value), right.has(value)) {
+                        (true, false) => right.write(record, right.low),
+                        (false, true) => right.write(record, right.greatest()),
+                        _ => {}
+                    }
+                }
+            }
+            ranged
+        }
+
         /// The vehicles as one with this slip judges their numbers.
         fn numbered(self, function: Function, vehicles: &[u8]) -> Vec<u8> {
-            let mut numbered = vehicles.to_vec();
+            let mut numbered = self.ranged(function, RecordOf::Vehicle, vehicles);
             for record in numbered.as_chunks_mut().0 {
                 let mut vehicle = Vehicle::read(record);
                 match (
@@ -562,7 +593,8 @@ mod tests {
     impl Side for Slip {
         fn sheet_of_train(&self, vehicles: &[u8], order: &[u8], room: &mut [u8]) -> u64 {
             let vehicles = self.numbered(Function::SheetOfTrain, vehicles);
-            let answer = Model.sheet_of_train(&vehicles, order, room);
+            let order = self.ranged(Function::SheetOfTrain, RecordOf::Order, order);
+            let answer = Model.sheet_of_train(&vehicles, &order, room);
             match self {
                 Slip::MarginTowardZero if answer == 0 && room[10..13] == [255; 3] => {
                     room[10..13].fill(0);
@@ -571,7 +603,6 @@ mod tests {
                 Slip::WritesWhenRefused if answer == 14 => room[31] = 0,
                 _ => {}
             }
-            let order = order.to_vec();
             self.misread(answer, Inputs::Train { vehicles, order }, room)
         }
 
@@ -610,11 +641,12 @@ mod tests {
         ) -> u64 {
             let engines = self.numbered(Function::SheetOfAccount, engines);
             let hauled = self.taken(hauled);
-            let answer = Model.sheet_of_account(&engines, &hauled, order, room);
+            let order = self.ranged(Function::SheetOfAccount, RecordOf::Order, order);
+            let answer = Model.sheet_of_account(&engines, &hauled, &order, room);
             let inputs = Inputs::Engines {
                 engines,
                 hauled,
-                order: order.to_vec(),
+                order,
             };
             if *self == Slip::DeductionNotHeld && answer == 0 {
                 Slip::not_held(&inputs, room);
@@ -630,6 +662,7 @@ mod tests {
 
         fn route_of_train(&self, vehicles: &[u8], orders: &[u8], room: &mut [u8]) -> u64 {
             let vehicles = &self.numbered(Function::RouteOfTrain, vehicles);
+            let orders = &self.ranged(Function::RouteOfTrain, RecordOf::Order, orders);
             let answer = Model.route_of_train(vehicles, orders, room);
             let (number, place, _) = parts(answer);
             let sections = orders.len() / ORDER;
@@ -663,11 +696,12 @@ mod tests {
         ) -> u64 {
             let engines = self.numbered(Function::RouteOfAccount, engines);
             let hauled = self.taken(hauled);
-            let answer = Model.route_of_account(&engines, &hauled, orders, room);
+            let orders = self.ranged(Function::RouteOfAccount, RecordOf::Order, orders);
+            let answer = Model.route_of_account(&engines, &hauled, &orders, room);
             let inputs = Inputs::AccountRoute {
                 engines,
                 hauled,
-                orders: orders.to_vec(),
+                orders,
             };
             self.misread(answer, inputs, room)
         }
@@ -744,5 +778,26 @@ mod tests {
         }
         assert!(differences(Slip::LengthNotJoined) > 0);
         assert!(differences(Slip::DeductionNotHeld) > 0);
+    }
+
+    /// One end of a field moved by one in each function that reads it; the vehicle number has slips of its own.
+    #[test]
+    fn slips_of_ranges_are_found() {
+        let mut planted = 0;
+        for row in page_rows().into_iter().skip(1) {
+            let reading = FUNCTIONS.into_iter().filter(|&function| match row.of {
+                RecordOf::Vehicle => function != Function::Join,
+                RecordOf::Order => refusals(function).contains(&4),
+            });
+            for function in reading {
+                for wrong in row.moved() {
+                    let slip = Slip::Range(function, row.of, [row.span, wrong.span]);
+                    let held = hold(&slip, vec![row.clone()]);
+                    assert!(!held.is_good(), "{} {}", function.name(), wrong.line());
+                    planted += 1;
+                }
+            }
+        }
+        assert_eq!(planted, 6 * 38 + 4 * 32);
     }
 }

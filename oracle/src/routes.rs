@@ -14,7 +14,7 @@ use crate::route::{is_bad, speed_on, SECTIONS};
 use crate::rules::category_rule;
 
 /// The byte of an order that holds the asked category.
-const ASKED: usize = 5;
+pub const ASKED: usize = 5;
 
 /// The rules that read an order, so that a section may break them alone; 0 stands for a section that is slow.
 const RULES: [u8; 4] = [0, 30, 35, 47];
@@ -358,7 +358,7 @@ impl Routes {
 fn out_of_range(record: &[u8; ORDER]) -> Vec<(usize, u64)> {
     let fields = ORDER_FIELDS.iter().enumerate();
     let values = fields.map(|(field, span)| (field, span, span.read(record)));
-    let out = values.filter(|(_, span, value)| !(span.low..=span.high).contains(value));
+    let out = values.filter(|(_, span, value)| !span.has(*value));
     out.map(|(field, _, value)| (field, value)).collect()
 }
 

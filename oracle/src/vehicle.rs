@@ -1,5 +1,7 @@
 //! The vehicle record, 24 bytes.
 
+use std::ops::RangeInclusive;
+
 pub const WAGON: u8 = 0;
 pub const HAULED_ENGINE: u8 = 1;
 pub const WORKING_ENGINE: u8 = 2;
@@ -95,9 +97,17 @@ impl Vehicle {
 /// A vehicle number is counted with leading zeros to so many digits.
 pub const DIGITS: usize = 12;
 
-/// A vehicle number in its range: 1 to 999,999,999,999, and its digits' sum closes to a multiple of ten.
+/// The ends of a vehicle number.
+pub const NUMBERS: RangeInclusive<u64> = 1..=999_999_999_999;
+
+/// A vehicle number in its range: between those ends, and its digits' sum closes to a multiple of ten.
 pub fn is_number(number: u64) -> bool {
-    (1..=999_999_999_999).contains(&number) && digit_sum(number).is_multiple_of(10)
+    NUMBERS.contains(&number) && closes(number)
+}
+
+/// The digits' sum is a multiple of ten, whatever the range.
+pub fn closes(number: u64) -> bool {
+    digit_sum(number).is_multiple_of(10)
 }
 
 /// The sum of the twelve digits, those in odd places from the left being doubled first and their digits added.

@@ -7,13 +7,13 @@ use mathlib.Core.List.{List, [], _∷_, _++_, map}
 use borrow.Author.Tests.{eq-eqb, eqb-true, eqb-false, ltb-false, not-false}
 use lib.Dec.{ltb}
 use lib.ListN.{length, length-append}
-use Rattle.record.specs.Words.{all, Every}
+use Rattle.lists.specs.Words.{all, Every}
 use Rattle.record.specs.Records.{recordCount, recordsOf, isWhole}
 use Rattle.record.specs.Vehicles.{good, vehicle, vehicles, isWorking}
 use Rattle.record.specs.declared.vehicle.Vehicle.{Vehicle}
 use Rattle.record.proofs.Records.{records-append}
 use Rattle.record.proofs.Vehicles.{both, all-append, length-vehicles, vehicles-append}
-use Rattle.record.specs.Figures.{some}
+use Rattle.lists.specs.Figures.{some}
 use Rattle.account.specs.Accounts.{accountOf}
 use Rattle.account.specs.Ceilings.{within}
 use Rattle.account.specs.Joining.{joining}
@@ -23,7 +23,7 @@ use Rattle.account.specs.Groupings.{GoodHauled, Portion, GoodPortion, Gr
 use Rattle.account.specs.declared.Accounted.{Accounted}
 use Rattle.account.specs.declared.Answer.{Answer}
 use Rattle.account.specs.declared.Answer.the-variants.{Done, NotWhole, TooMany, BadField, WorkingEngine, AboveCeiling}
-use Rattle.record.proofs.Lists.{neither, every-append}
+use Rattle.lists.proofs.Lists.{neither, every-append}
 use Rattle.account.proofs.Ceils.{test-within, figure-at, portion-left, portion-right}
 use Rattle.account.proofs.Joins.{each-hauled, joined-accounts}
 use Rattle.account.proofs.Portions.{good-hauled, answer-0, hauled-not-working, none-working}

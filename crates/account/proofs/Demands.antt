@@ -7,12 +7,12 @@ use mathlib.Core.Bool.{Bool, true, false, cond}
 use mathlib.Core.List.{List, [], _∷_, _++_, map, append-nil}
 use borrow.Author.Tests.{eqb-true}
 use lib.ListN.{length, getD}
-use Rattle.record.specs.Words.{all, leading, Every, Case, caseAt, First}
-use Rattle.record.specs.Figures.{some}
+use Rattle.lists.specs.Words.{all, leading, Every, Case, caseAt, First}
+use Rattle.lists.specs.Figures.{some}
 use Rattle.record.specs.Records.{recordCount, records, recordsOf, isWhole}
 use Rattle.record.specs.Vehicles.{good, vehicle, vehicles, firstBad, foundNumber, foundPlace, isWorking, isV}
 use Rattle.record.specs.declared.vehicle.Vehicle.{Vehicle}
-use Rattle.record.proofs.Cases.{first-applies, none-applies, first-or-none}
+use Rattle.lists.proofs.Cases.{first-applies, none-applies, first-or-none}
 use Rattle.record.proofs.Demands.{found-number, found-place}
 use Rattle.account.specs.Accounts.{accountOf, empty, sums}
 use Rattle.account.specs.Ceilings.{_upTo_, figures, within, Within}

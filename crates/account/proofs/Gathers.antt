@@ -10,19 +10,19 @@ use borrow.Author.Tests.{le-ltb, lt-ltb}
 use lib.Dec.{eqb, ltb, leb·suc-suc}
 use lib.ListN.{length, getD, set, take, drop, length-reverse, List·getD-append}
 use lib.Seq.{set-append-left}
-use Rattle.record.specs.Words.{leading, Every}
+use Rattle.lists.specs.Words.{leading, Every}
 use Rattle.record.specs.Records.{records}
 use Rattle.record.specs.Vehicles.{good, vehicle, reading, isWagon, isHauledEngine, isIsolated, isJoined, hasMatrossow, hasDLoad}
 use Rattle.record.specs.declared.vehicle.Vehicle.{Vehicle}
 use Rattle.record.specs.declared.vehicle.Reading.the-variants.{Good}
 use Rattle.record.proofs.Records.{recordAt}
 use Rattle.record.proofs.Vehicles.{length-vehicles, vehicles-snoc}
-use Rattle.record.specs.Figures.{sum, count, some, trailing, longest, behind, least}
+use Rattle.lists.specs.Figures.{sum, count, some, trailing, longest, behind, least}
 use Rattle.account.specs.Groupings.{Hauled, GoodHauled}
 use Rattle.account.specs.Gathering.{runningOf, withOne, Room, setTo, bySetting, summed, summedOf, tableOf, addedFrom, RoomFrom, Gathered}
 use Rattle.account.specs.declared.gather.Running.{Running}
-use Rattle.record.proofs.Lists.{every-append, every-map, every-at, every-set}
-use Rattle.record.proofs.Figures.{some-append, trailing-append, longest-append, least-append, least-top, sum-le, count-le, cond-le, leading-le, some-count, sum-one, count-one, trailing-longest, firsts-one, firsts-length}
+use Rattle.lists.proofs.Lists.{every-append, every-map, every-at, every-set}
+use Rattle.lists.proofs.Figures.{some-append, trailing-append, longest-append, least-append, least-top, sum-le, count-le, cond-le, leading-le, some-count, sum-one, count-one, trailing-longest, firsts-one, firsts-length}
 use Rattle.account.proofs.Ceils.{_⊗_, mass-le, vmass-le, mmass-le, length-le, axles-le, setting-le, joined-le, dload-le}
 use Rattle.account.proofs.Portions.{read-good}
 

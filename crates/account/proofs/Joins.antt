@@ -6,10 +6,10 @@ use mathlib.Core.Bool.{Bool, true, false, not, _&&_, _||_, cond}
 use mathlib.Core.List.{List, [], _∷_, _++_}
 use lib.Dec.{ltb, eqb}
 use lib.ListN.{length, length-append}
-use Rattle.record.specs.Words.{Every, leading}
+use Rattle.lists.specs.Words.{Every, leading}
 use Rattle.record.specs.Vehicles.{isWagon, isHauledEngine, isIsolated, isM, isV, isR, isJoined, hasMatrossow, hasDLoad}
 use Rattle.record.specs.declared.vehicle.Vehicle.{Vehicle}
-use Rattle.record.specs.Figures.{sum, count, some, longest, behind}
+use Rattle.lists.specs.Figures.{sum, count, some, longest, behind}
 use Rattle.account.specs.Accounts.{accountOf, sums}
 use Rattle.account.specs.Ceilings.{within}
 use Rattle.account.specs.Joining.{joining}
@@ -19,8 +19,8 @@ use Rattle.account.specs.Groupings.{Hauled, GoodHauled, Portion, Groupin
 use Rattle.account.specs.declared.Account.{Account}
 use Rattle.account.specs.declared.Accounted.{Accounted}
 use Rattle.account.specs.declared.Answer.the-variants.{TooMany, AboveCeiling}
-use Rattle.record.proofs.Lists.{neither, every-map}
-use Rattle.record.proofs.Figures.{sum-append, count-append, some-append, leading-append, trailing-append, longest-append, behind-append, some-count, some-same, lack-count, least-append, firsts-append, sum-exchange, length-exchange, sum-less, cond-le}
+use Rattle.lists.proofs.Lists.{neither, every-map}
+use Rattle.lists.proofs.Figures.{sum-append, count-append, some-append, leading-append, trailing-append, longest-append, behind-append, some-count, some-same, lack-count, least-append, firsts-append, sum-exchange, length-exchange, sum-less, cond-le}
 use Rattle.account.proofs.Ceils.{within-test, portion-ceilings, portion-left, portion-right}
 
 -- of a hauled vehicle, what is no hauled engine is a wagon

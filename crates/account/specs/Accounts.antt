@@ -3,10 +3,10 @@ use Prim.Native.Nat.{ℕ}
 use mathlib.Core.Bool.{not, _&&_, cond}
 use mathlib.Core.List.{List, [], _∷_}
 use lib.ListN.{length}
-use Rattle.record.specs.Words.{leading}
+use Rattle.lists.specs.Words.{leading}
 use Rattle.record.specs.Vehicles.{isWagon, isHauledEngine, isIsolated, isM, isV, isR, isJoined, hasMatrossow, hasDLoad}
 use Rattle.record.specs.declared.vehicle.Vehicle.{Vehicle}
-use Rattle.record.specs.Figures.{sum, count, some, trailing, longest, behind, least, firsts}
+use Rattle.lists.specs.Figures.{sum, count, some, trailing, longest, behind, least, firsts}
 use Rattle.account.specs.declared.Account.{Account}
 
 unfoldable pub accountOf : List Vehicle → Account

@@ -3,7 +3,7 @@ use Prim.Native.Nat.{ℕ, _≤_}
 use mathlib.Core.Bool.{Bool}
 use mathlib.Core.List.{List, [], _∷_}
 use lib.ListN.{getD}
-use Rattle.record.specs.Words.{_atMost_, all, Every}
+use Rattle.lists.specs.Words.{_atMost_, all, Every}
 use Rattle.account.specs.declared.Account.{Account}
 
 -- a figure with its ceiling

@@ -4,10 +4,10 @@ use mathlib.Core.Path.{_≡_}
 use mathlib.Core.Bool.{not, _&&_, _||_, cond}
 use mathlib.Core.List.{List, [], _∷_, _++_, map}
 use lib.ListN.{getD, set}
-use Rattle.record.specs.Words.{_is_, Every}
+use Rattle.lists.specs.Words.{_is_, Every}
 use Rattle.record.specs.Vehicles.{isWagon, isHauledEngine, isIsolated, isJoined, hasMatrossow, hasDLoad}
 use Rattle.record.specs.declared.vehicle.Vehicle.{Vehicle}
-use Rattle.record.specs.Figures.{sum, count, some, trailing, longest, least, firsts}
+use Rattle.lists.specs.Figures.{sum, count, some, trailing, longest, least, firsts}
 use Rattle.account.specs.Groupings.{GoodHauled}
 use Rattle.account.specs.declared.gather.Running.{Running}
 

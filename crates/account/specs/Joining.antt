@@ -3,7 +3,7 @@ use Prim.Native.Nat.{ℕ, _+_, min, max}
 use mathlib.Core.Bool.{_&&_, _||_, cond}
 use mathlib.Core.List.{List, _++_}
 use lib.ListN.{take}
-use Rattle.record.specs.Words.{_is_, _above_}
+use Rattle.lists.specs.Words.{_is_, _above_}
 use Rattle.account.specs.declared.Account.{Account}
 
 -- a run, with the next portion's added when it equals the count n of its own

@@ -11,7 +11,7 @@ ghost use Rattle.account.specs.Gathering.{Room, RoomFrom, Gathered, runn
 use crate::Account;
 use crate::joining::greater;
 use crate::joining::sum;
-use record::number::lesser;
+use lists::number::lesser;
 use record::vehicle::SIZE;
 use record::vehicle::Vehicle;
 use record::vehicle::leading_engines;

@@ -4,7 +4,7 @@ ghost use Prim.Native.Nat.{_+_, _<_, _^_, max};
 ghost use Rattle.account.specs.Ceilings.{Within};
 ghost use Rattle.account.specs.Joining.{onward, fill, joining};
 use crate::Account;
-use record::number::lesser;
+use lists::number::lesser;
 
 pub(crate) fn greater(x: u32, y: u32) -> u32
     ensures { λ r. ⌜ r ≡ max x y ⌝ }

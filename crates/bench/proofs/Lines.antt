@@ -4,7 +4,7 @@ use mathlib.Core.Path.{_≡_, refl, ap, _∙_}
 use mathlib.Core.List.{List, [], _∷_, _++_}
 use native.Mathlib.Omega.{arith}
 use lib.ListN.{length, take, drop, length-take, length-append, drop-of-length-le}
-use Rattle.record.specs.Words.{_is_}
+use Rattle.lists.specs.Words.{_is_}
 use Rattle.record.specs.Vehicles.{vehicles}
 use Rattle.order.specs.Orders.{orderOf}
 use Rattle.facts.specs.Facts.{factsOf}

@@ -7,7 +7,7 @@ use native.Mathlib.Omega.{arith}
 use borrow.Author.Tests.{ltb-false}
 use lib.ListN.{length, take, drop, length-append, drop-of-length-le}
 use lib.Seq.{sets}
-use Rattle.record.specs.Words.{_is_}
+use Rattle.lists.specs.Words.{_is_}
 use Rattle.record.specs.Records.{recordCount}
 use Rattle.record.specs.Vehicles.{vehicles}
 use Rattle.facts.specs.Facts.{factsOf}

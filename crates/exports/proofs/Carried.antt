@@ -6,7 +6,7 @@ use mathlib.Core.List.{List, _++_, map}
 use native.Mathlib.Omega.{arith}
 use lib.ListN.{length, take, replicate, length-append}
 use lib.Seq.{length-take-le}
-use Rattle.record.specs.Words.{_is_, _above_, all}
+use Rattle.lists.specs.Words.{_is_, _above_, all}
 use Rattle.record.specs.Records.{isWhole}
 use Rattle.record.specs.Vehicles.{vehicles, isWorking}
 use Rattle.record.specs.declared.vehicle.Vehicle.{Vehicle}

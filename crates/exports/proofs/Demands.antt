@@ -6,7 +6,7 @@ use mathlib.Core.Bool.{true, false, not, _&&_, _||_}
 use mathlib.Core.List.{List, [], _++_}
 use native.Mathlib.Omega.{arith}
 use lib.ListN.{length, drop}
-use Rattle.record.specs.Words.{_is_, all}
+use Rattle.lists.specs.Words.{_is_, all}
 use Rattle.record.specs.Records.{isWhole}
 use Rattle.record.specs.Vehicles.{vehicles, isWorking}
 use Rattle.account.specs.Answers as account

@@ -8,11 +8,11 @@ use native.Mathlib.Omega.{arith}
 use borrow.Author.Tests.{ltb-false, lt-ltb, le-ltb, eq-eqb, ne-eqb}
 use lib.ListN.{length, take, drop}
 use lib.Seq.{take-all}
-use Rattle.record.specs.Words.{_is_, _above_, all, leading, Every, Case, firstOf}
+use Rattle.lists.specs.Words.{_is_, _above_, all, leading, Every, Case, firstOf}
 use Rattle.record.specs.Records.{recordCount, recordsOf, isWhole}
 use Rattle.record.specs.Vehicles.{good, vehicles, isWorking}
 use Rattle.record.proofs.Records.{length-records}
-use Rattle.record.specs.Figures.{some}
+use Rattle.lists.specs.Figures.{some}
 use Rattle.account.specs.Ceilings.{within}
 use Rattle.account.specs.Answers as account
 use Rattle.account.specs.Portions.{portionRefusals, accounted, joinRefusals, joined}
@@ -22,8 +22,8 @@ use Rattle.account.specs.declared.Account.{Account}
 use Rattle.account.specs.declared.Accounted.{Accounted}
 use Rattle.account.specs.declared.Answer as account-answer
 use Rattle.account.specs.declared.Answer.the-variants as account-case
-use Rattle.record.proofs.Figures.{leading-le}
-use Rattle.record.proofs.Lists.{neither}
+use Rattle.lists.proofs.Figures.{leading-le}
+use Rattle.lists.proofs.Lists.{neither}
 use Rattle.sections.specs.Sections.{askedIn, goodSection, leadingGood}
 use Rattle.judge.specs.Answers.{numberOf, placeOf, trainAround, trainRefusals, trainAnswer, accountAround, accountRefusals, accountAnswer, orderRefusals, trainShape, engineShape}
 use Rattle.judge.specs.declared.Answer.{Answer}

@@ -4,7 +4,7 @@ use mathlib.Core.Path.{_≡_}
 use mathlib.Core.Bool.{_&&_, cond}
 use mathlib.Core.List.{List, [], _++_}
 use lib.ListN.{length, drop}
-use Rattle.record.specs.Words.{_is_, _above_}
+use Rattle.lists.specs.Words.{_is_, _above_}
 use Rattle.account.specs.Answers as account
 use Rattle.account.specs.Portions.{accounted, joined}
 use Rattle.account.specs.Groupings.{Grouping, portion, pair}

@@ -3,10 +3,10 @@ use Prim.Native.Nat.{ℕ, _≤_}
 use mathlib.Core.Path.{_≡_, ap, _∙_, subst}
 use mathlib.Core.Bool.{false}
 use mathlib.Core.List.{List, _++_}
-use Rattle.record.specs.Words.{Every}
+use Rattle.lists.specs.Words.{Every}
 use Rattle.record.specs.Vehicles.{vehicles, isWorking}
 use Rattle.record.specs.declared.vehicle.Vehicle.{Vehicle}
-use Rattle.record.specs.Figures.{firstIs}
+use Rattle.lists.specs.Figures.{firstIs}
 use Rattle.account.specs.Accounts.{accountOf}
 use Rattle.account.specs.Ceilings.{Within}
 use Rattle.account.specs.declared.Account.{Account}

@@ -6,7 +6,7 @@ use mathlib.Core.Bool.{Bool, true, false, not, _&&_, cond}
 use mathlib.Core.List.{List, [], _∷_, _++_, map}
 use lib.ListN.{length, take, drop, length-append, length-drop, drop-of-length-le}
 use lib.Seq.{take-all}
-use Rattle.record.specs.Words.{all}
+use Rattle.lists.specs.Words.{all}
 use Rattle.record.specs.Records.{records, recordCount}
 use borrow.Author.Tests.{eq-eqb, ne-eqb, eqb-true}
 use native.Mathlib.Decide.{ℕ-discrete, decLe}
@@ -15,8 +15,8 @@ use Rattle.record.specs.Vehicles.{good, vehicle, vehicles, reading, isIsolated,
 use Rattle.record.specs.declared.vehicle.Vehicle.{Vehicle}
 use Rattle.record.specs.declared.vehicle.Reading.the-variants.{Good, Bad}
 use Rattle.record.proofs.Vehicles.{both, at-most, reading-good, reading-bad, length-bad}
-use Rattle.record.specs.Figures.{count}
-use Rattle.record.proofs.Figures.{sum-append, count-append, some-append, least-append, cond-le}
+use Rattle.lists.specs.Figures.{count}
+use Rattle.lists.proofs.Figures.{sum-append, count-append, some-append, least-append, cond-le}
 use Rattle.facts.specs.Engines.{enginesOf, taken, enginesIn, GoodEngines, bothOf}
 use Rattle.facts.specs.declared.engine.Engines.{Engines}
 

@@ -1,10 +1,10 @@
 -- What the figures say of the records: rules 19, 20, 43 and 44. Assumes nothing.
 use mathlib.Core.Path.{_≡_, refl}
 use mathlib.Core.List.{List, reverse}
-use Rattle.record.specs.Words.{_is_}
+use Rattle.lists.specs.Words.{_is_}
 use Rattle.record.specs.Vehicles.{isIsolated}
 use Rattle.record.specs.declared.vehicle.Vehicle.{Vehicle}
-use Rattle.record.proofs.Figures.{first-leading, some-firsts, some-after}
+use Rattle.lists.proofs.Figures.{first-leading, some-firsts, some-after}
 use Rattle.account.specs.Accounts.{accountOf}
 use Rattle.facts.specs.Readings.{firstIsolated, firstIsolatedBy, lastIsolated, lastIsolatedBy, firstFiveV, firstFiveVBy, afterFifthM, afterFifthMBy}
 

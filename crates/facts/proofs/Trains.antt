@@ -7,14 +7,14 @@ use mathlib.Core.List.{List, [], _∷_, _++_}
 use lib.ListN.{length, take, drop}
 use lib.Seq.{take-at, drop-at}
 use borrow.Author.Tests.{eq-eqb, ne-eqb}
-use Rattle.record.specs.Words.{leading, Every}
+use Rattle.lists.specs.Words.{leading, Every}
 use Rattle.record.specs.Vehicles.{isWagon, isHauledEngine, isWorking, isIsolated, isM, isV, isR, isJoined, hasMatrossow, hasDLoad}
 use Rattle.record.specs.declared.vehicle.Vehicle.{Vehicle}
-use Rattle.record.specs.Figures.{sum, count, some, firstIs, longest, behind}
+use Rattle.lists.specs.Figures.{sum, count, some, firstIs, longest, behind}
 use Rattle.account.specs.Accounts.{accountOf}
 use Rattle.facts.specs.Readings.{firstIsolated, lastIsolated, firstFiveV, afterFifthM}
-use Rattle.record.proofs.Lists.{every-map}
-use Rattle.record.proofs.Figures.{sum-append, count-append, some-append, least-append, behind-append, some-count, leading-parted, each-none}
+use Rattle.lists.proofs.Lists.{every-map}
+use Rattle.lists.proofs.Figures.{sum-append, count-append, some-append, least-append, behind-append, some-count, leading-parted, each-none}
 use Rattle.facts.proofs.Readings.{rule-19, rule-20, rule-43, rule-44}
 use Rattle.account.specs.Ceilings.{Within}
 use Rattle.account.specs.declared.Account.{Account}

@@ -4,13 +4,13 @@ use mathlib.Core.Path.{_≡_}
 use mathlib.Core.Bool.{true, not, _||_, cond}
 use mathlib.Core.List.{List, [], _∷_, _++_}
 use lib.ListN.{length, take, drop}
-use Rattle.record.specs.Words.{all}
+use Rattle.lists.specs.Words.{all}
 use Rattle.record.specs.Records.{recordsOf, isWhole}
 use Rattle.record.specs.Vehicles.{good, reading, isIsolated, isM, isV, isR, isJoined, hasDLoad}
 use Rattle.record.specs.declared.vehicle.Vehicle.{Vehicle}
 use Rattle.record.specs.declared.vehicle.Reading.{Reading}
 use Rattle.record.specs.declared.vehicle.Reading.the-variants.{Good, Bad}
-use Rattle.record.specs.Figures.{sum, count, some, least}
+use Rattle.lists.specs.Figures.{sum, count, some, least}
 use Rattle.facts.specs.declared.engine.Engines.{Engines}
 
 unfoldable pub enginesOf : List Vehicle → Engines

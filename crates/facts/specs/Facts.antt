@@ -4,10 +4,10 @@ use mathlib.Core.Path.{_≡_}
 use mathlib.Core.Bool.{not, _&&_, _||_, cond}
 use mathlib.Core.List.{List}
 use lib.ListN.{length, take, drop}
-use Rattle.record.specs.Words.{_above_, leading}
+use Rattle.lists.specs.Words.{_above_, leading}
 use Rattle.record.specs.Vehicles.{isWagon, isHauledEngine, isWorking, isIsolated, isM, isV, isR, isJoined, hasMatrossow, hasDLoad}
 use Rattle.record.specs.declared.vehicle.Vehicle.{Vehicle}
-use Rattle.record.specs.Figures.{sum, count, some, longest, behind, least}
+use Rattle.lists.specs.Figures.{sum, count, some, longest, behind, least}
 use Rattle.facts.specs.Readings.{firstIsolated, firstIsolatedBy, lastIsolated, lastIsolatedBy, firstFiveV, firstFiveVBy, afterFifthM, afterFifthMBy}
 use Rattle.account.specs.declared.Account.{Account}
 use Rattle.facts.specs.Engines.{enginesOf}

@@ -2,10 +2,10 @@
 use mathlib.Core.Bool.{Bool}
 use mathlib.Core.List.{List}
 use lib.ListN.{take, drop}
-use Rattle.record.specs.Words.{_is_, _above_}
+use Rattle.lists.specs.Words.{_is_, _above_}
 use Rattle.record.specs.Vehicles.{isIsolated, isM, isV}
 use Rattle.record.specs.declared.vehicle.Vehicle.{Vehicle}
-use Rattle.record.specs.Figures.{count, some, firstIs, lastIs}
+use Rattle.lists.specs.Figures.{count, some, firstIs, lastIs}
 use Rattle.account.specs.declared.Account.{Account}
 
 -- 19: first hauled vehicle isolated

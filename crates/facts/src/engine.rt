@@ -4,7 +4,7 @@ ghost use mathlib.Core.Bool.{cond};
 ghost use mathlib.Core.List.{[], _∷_};
 ghost use Rattle.record.specs.Vehicles.{reading};
 ghost use Rattle.facts.specs.Engines.{enginesOf, taken};
-use record::number::lesser;
+use lists::number::lesser;
 use record::vehicle::Reading;
 use record::vehicle::Vehicle;
 use record::vehicle::read;

@@ -2,15 +2,15 @@
 ghost use mathlib.Core.Path.{_≡_};
 ghost use mathlib.Core.Bool.{cond};
 ghost use Prim.Native.Nat.{_+_, _%_, _≤_, min};
-ghost use Rattle.record.specs.Words.{_is_};
-ghost use Rattle.record.specs.Figures.{count};
+ghost use Rattle.lists.specs.Words.{_is_};
+ghost use Rattle.lists.specs.Figures.{count};
 ghost use Rattle.facts.specs.Readings.{firstFiveVBy};
 ghost use Rattle.facts.specs.Engines.{bothOf, enginesIn};
 ghost use Rattle.facts.specs.Facts.{besideOf, factsBeside, held};
 use crate::engine::Engines;
 use crate::engine::engine_at;
 use account::Account;
-use record::number::lesser;
+use lists::number::lesser;
 use record::vehicle::SIZE;
 
 mod engine;

@@ -2,7 +2,7 @@
 use mathlib.Core.Path.{_≡_, refl, sym, ap, _∙_}
 use mathlib.Core.Bool.{Bool, true, false, not, cond, false≢true}
 use mathlib.Core.List.{List, [], _∷_, _++_}
-use Rattle.record.specs.Words.{Every, Case, firstOf}
+use Rattle.lists.specs.Words.{Every, Case, firstOf}
 use Rattle.facts.specs.declared.Facts.{Facts}
 use Rattle.judge.specs.Answers.{isDone}
 use Rattle.judge.specs.Judging.{Refusing, lentAs, judgedBy}

@@ -7,8 +7,9 @@ use mathlib.Core.List.{List}
 use borrow.Author.Tests.{leb-true}
 use lib.Dec.{eqb, leb}
 use lib.ListN.{length, drop}
-use Rattle.record.specs.Words.{all, leading, firstOf}
-use Rattle.record.specs.Vehicles.{field, fieldGood, vehicles, isWorking}
+use Rattle.lists.specs.Words.{all, leading, firstOf}
+use Rattle.record.specs.Ranges.{field, fieldGood}
+use Rattle.record.specs.Vehicles.{vehicles, isWorking}
 use Rattle.record.proofs.Vehicles.{both, all-at}
 use Rattle.account.specs.Portions.{accounted}
 use Rattle.account.specs.declared.Account.{Account}

@@ -1,10 +1,10 @@
 -- Case A of document 01 from its own bytes, through the judging library's definitions. Assumes nothing.
 use mathlib.Core.Path.{_≡_, refl}
 use lib.ListN.{replicate}
-use Rattle.record.specs.Words.{all}
-use Rattle.record.specs.Numbers.{littleEndian}
+use Rattle.lists.specs.Words.{all}
+use Rattle.lists.specs.Numbers.{littleEndian}
 use Rattle.record.specs.Records.{records}
-use Rattle.record.specs.Closing.{closes}
+use Rattle.closing.specs.Closing.{closes}
 use Rattle.record.specs.Vehicles.{good, vehicle}
 use Rattle.margin.specs.Margin.{fourfold, marginOf}
 use Rattle.order.specs.Orders.{goodOrder, orderOf}

@@ -5,10 +5,10 @@ use mathlib.Core.Logic.{_⊎_}
 use mathlib.Core.Bool.{true, false}
 use mathlib.Core.List.{List, [], _∷_, _++_, map}
 use lib.ListN.{length, drop}
-use Rattle.record.specs.Words.{all, leading, Every, Case, firstOf, caseAt, First}
+use Rattle.lists.specs.Words.{all, leading, Every, Case, firstOf, caseAt, First}
 use Rattle.record.specs.Records.{recordsOf}
 use Rattle.record.specs.Vehicles.{good, vehicles, isWorking}
-use Rattle.record.proofs.Cases.{first-applies, none-applies, first-or-none}
+use Rattle.lists.proofs.Cases.{first-applies, none-applies, first-or-none}
 use Rattle.account.specs.Accounts.{accountOf}
 use Rattle.account.specs.Portions.{accounted}
 use Rattle.account.specs.Groupings.{Grouping, uncut, joinedBytes, BetweenRecords, GoodPortion, NoneRefused}

@@ -7,10 +7,10 @@ use mathlib.Core.List.{List}
 use borrow.Author.Tests.{eq-eqb, eqb-true, eqb-false, ltb-false, not-false}
 use lib.Dec.{eqb, ltb}
 use lib.ListN.{length}
-use Rattle.record.specs.Words.{all, leading, firstOf}
+use Rattle.lists.specs.Words.{all, leading, firstOf}
 use Rattle.record.specs.Records.{recordCount, recordsOf, isWhole}
 use Rattle.record.specs.Vehicles.{good, vehicles, isWorking}
-use Rattle.record.proofs.Lists.{neither, lacking}
+use Rattle.lists.proofs.Lists.{neither, lacking}
 use Rattle.record.proofs.Vehicles.{length-vehicles}
 use Rattle.account.specs.Ceilings.{within, Within}
 use Rattle.account.specs.declared.Account.{Account}

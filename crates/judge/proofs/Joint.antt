@@ -7,14 +7,14 @@ use mathlib.Core.List.{List, [], _∷_, _++_}
 use borrow.Author.Tests.{eq-eqb, ne-eqb, eqb-true}
 use lib.Dec.{eqb, ltb}
 use lib.ListN.{length, length-append}
-use Rattle.record.specs.Words.{all, Every, Case, firstOf}
+use Rattle.lists.specs.Words.{all, Every, Case, firstOf}
 use Rattle.record.specs.Records.{recordCount, recordsOf, isWhole}
 use Rattle.record.specs.Vehicles.{good, vehicles, isWorking}
 use Rattle.record.proofs.Records.{records-append}
-use Rattle.record.proofs.Lists.{all-each, all-append}
-use Rattle.record.proofs.Figures.{none-first, all-first}
+use Rattle.lists.proofs.Lists.{all-each, all-append}
+use Rattle.lists.proofs.Figures.{none-first, all-first}
 use Rattle.record.proofs.Vehicles.{length-vehicles, vehicles-append}
-use Rattle.record.specs.Figures.{some, firstIs}
+use Rattle.lists.specs.Figures.{some, firstIs}
 use Rattle.account.specs.Accounts.{accountOf}
 use Rattle.account.specs.Ceilings.{within}
 use Rattle.account.specs.Portions.{accounted}

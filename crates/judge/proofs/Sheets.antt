@@ -7,7 +7,7 @@ use mathlib.Core.List.{List, _++_}
 use borrow.Author.Tests.{ltb-false, not-false}
 use lib.ListN.{length, take, drop}
 use lib.Seq.{take-all}
-use Rattle.record.specs.Words.{Every, firstOf}
+use Rattle.lists.specs.Words.{Every, firstOf}
 use Rattle.record.specs.Vehicles.{vehicles}
 use Rattle.account.specs.declared.Account.{Account}
 use Rattle.facts.specs.Facts.{factsOf, factsBeside}

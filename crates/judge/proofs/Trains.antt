@@ -8,13 +8,13 @@ use borrow.Author.Tests.{eq-eqb, eqb-true, eqb-false, ltb-false, lt-ltb, not-fal
 use lib.Dec.{eqb, ltb, eqb·suc-zero}
 use lib.ListN.{length, take, drop, length-drop, take-append-drop}
 use lib.Seq.{take-at, drop-at, length-take-le}
-use Rattle.record.specs.Words.{_is_, all, leading, Every, firstOf}
+use Rattle.lists.specs.Words.{_is_, all, leading, Every, firstOf}
 use Rattle.record.specs.Records.{recordCount, recordsOf}
 use Rattle.record.specs.Vehicles.{good, vehicles, isWorking}
 use Rattle.record.specs.declared.vehicle.Vehicle.{Vehicle}
 use Rattle.record.proofs.Records.{records-append}
 use Rattle.record.proofs.Vehicles.{both, all-append, length-vehicles, vehicles-append}
-use Rattle.record.specs.Figures.{some, firstIs}
+use Rattle.lists.specs.Figures.{some, firstIs}
 use Rattle.account.specs.Accounts.{accountOf}
 use Rattle.account.specs.Ceilings.{Within}
 use Rattle.account.specs.Answers.{numberOf, doneWith, refusedBy}
@@ -22,8 +22,8 @@ use Rattle.account.specs.Portions.{accounted}
 use Rattle.account.specs.declared.Accounted.{Accounted}
 use Rattle.account.specs.declared.Answer.{Answer as Portion}
 use Rattle.account.specs.declared.Answer.the-variants.{Done as PortionDone, NotWhole, TooMany, BadField, WorkingEngine, AboveCeiling}
-use Rattle.record.proofs.Lists.{every-map, leading-each}
-use Rattle.record.proofs.Figures.{leading-le, first-leading, none-first}
+use Rattle.lists.proofs.Lists.{every-map, leading-each}
+use Rattle.lists.proofs.Figures.{leading-le, first-leading, none-first}
 use Rattle.account.proofs.Demands.{within-ceilings, answer-6, answer-0, hauled-each, portion-done-exactly}
 use Rattle.facts.specs.Engines.{GoodEngines}
 use Rattle.facts.specs.Facts.{workingOf, hauledOf, factsOf, factsBeside, Working}

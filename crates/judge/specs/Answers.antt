@@ -3,11 +3,11 @@ use Prim.Native.Nat.{ℕ, _+_}
 use mathlib.Core.Bool.{Bool, not, _||_, cond}
 use mathlib.Core.List.{List, [], _∷_, _++_}
 use lib.ListN.{length, drop}
-use Rattle.record.specs.Words.{_is_, _above_, all, leading, Case, firstOf}
+use Rattle.lists.specs.Words.{_is_, _above_, all, leading, Case, firstOf}
 use Rattle.record.specs.Records.{recordCount, recordsOf, isWhole}
 use Rattle.record.specs.Vehicles.{good, vehicles, isWorking}
 use Rattle.record.specs.declared.vehicle.Vehicle.{Vehicle}
-use Rattle.record.specs.Figures.{some, firstIs}
+use Rattle.lists.specs.Figures.{some, firstIs}
 use Rattle.account.specs.Ceilings.{within}
 use Rattle.account.specs.declared.Account.{Account}
 use Rattle.order.specs.Orders.{goodOrder, orderOf}

@@ -4,7 +4,7 @@ use mathlib.Core.Path.{_≡_}
 use mathlib.Core.Bool.{true, false, not, cond}
 use mathlib.Core.List.{List, [], _∷_, _++_}
 use lib.ListN.{length, take, drop}
-use Rattle.record.specs.Words.{all, Every, Case, firstOf}
+use Rattle.lists.specs.Words.{all, Every, Case, firstOf}
 use Rattle.record.specs.Records.{recordCount, recordsOf}
 use Rattle.record.specs.Vehicles.{good, vehicles}
 use Rattle.account.specs.Ceilings.{Within}

@@ -2,7 +2,7 @@
 ghost use mathlib.Core.Path.{_≡_};
 ghost use mathlib.Core.Bool.{true, not};
 ghost use lib.ListN.{length};
-ghost use Rattle.record.specs.Words.{_is_, all, firstOf};
+ghost use Rattle.lists.specs.Words.{_is_, all, firstOf};
 ghost use Rattle.record.specs.Records.{recordsOf};
 ghost use Rattle.record.specs.Vehicles.{good, vehicles};
 ghost use Rattle.account.specs.Answers.{numberOf as portionNumber};

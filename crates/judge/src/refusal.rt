@@ -2,7 +2,7 @@
 ghost use mathlib.Core.Path.{_≡_};
 ghost use mathlib.Core.Bool.{true};
 ghost use mathlib.Core.List.{[], _∷_};
-ghost use Rattle.record.specs.Words.{all, firstOf};
+ghost use Rattle.lists.specs.Words.{all, firstOf};
 ghost use Rattle.record.specs.Records.{recordsOf};
 ghost use Rattle.record.specs.Vehicles.{good};
 ghost use Rattle.judge.specs.Answers.{isDone, badField, countRefusals, orderTests, engineRefusals, shape};

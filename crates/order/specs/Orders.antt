@@ -1,10 +1,10 @@
 -- Document 01, "The order record, 24 bytes".
 use Prim.Native.Nat.{ℕ}
-use mathlib.Core.Bool.{Bool, _&&_, cond}
+use mathlib.Core.Bool.{Bool, cond}
 use mathlib.Core.List.{List, [], _∷_}
 use lib.ListN.{length, getD}
-use Rattle.record.specs.Words.{_is_, all}
-use Rattle.record.specs.Vehicles.{Field, field, value, fieldGood}
+use Rattle.lists.specs.Words.{_is_}
+use Rattle.record.specs.Ranges.{Field, field, value, inRanges}
 use Rattle.order.specs.declared.Order.{Order}
 
 abbrev pub orderFields : List Field
@@ -31,7 +31,7 @@ orderFields =
 
 -- 24 bytes with every field in its range
 unfoldable pub goodOrder : List ℕ → Bool
-goodOrder r = length r is 24 && all (fieldGood r) orderFields
+goodOrder r = inRanges orderFields r
 
 abbrev pub orderValue : List ℕ → ℕ → ℕ
 orderValue r f = value r (getD orderFields f (field 0 0 0 0))

@@ -2,7 +2,8 @@
 ghost use mathlib.Core.Path.{_≡_};
 ghost use lib.ListN.{length};
 ghost use Rattle.order.specs.Orders.{goodOrder, orderOf, orderRead};
-use record::number::number;
+use lists::number::number;
+use record::ranges::is_in_ranges;
 use record::vehicle::SIZE;
 
 pub struct Order {
@@ -25,27 +26,26 @@ const NO_ORDER: Order = Order {
     admissible: 0,
 };
 
+// Document 01, "The order record, 24 bytes": first byte, width, low, high.
+pub const ORDER: [[u64; 4]; 11] = [
+    [0, 1, 0, 200], // the line's limit for ME120; 0 is a missing column
+    [1, 1, 0, 200], // the line's limit for ME100; 0 is a missing column
+    [2, 1, 0, 200], // the line's limit for MA100; 0 is a missing column
+    [3, 1, 0, 200], // the line's limit for MA90; 0 is a missing column
+    [4, 1, 0, 200], // the line's limit for MA80; 0 is a missing column
+    [5, 1, 1, 5], // category asked
+    [6, 1, 0, 200], // percentage in the German timetable
+    [7, 1, 0, 0], // always 0
+    [8, 4, 1, 100_000], // coupling limit (LRA)
+    [12, 4, 1, 100_000], // admissible mass
+    [16, 8, 0, 0], // always 0
+];
+
 // Refusal 4 is for the rest.
 pub fn is_good_order(order: &[u8]) -> bool
     ensures { λ r. ⌜ r ≡ goodOrder (now (order .entry)) ⌝ }
 {
-    if order.len() != SIZE {
-        return false;
-    }
-    let coupling = number(&order[8..12]);
-    let admissible = number(&order[12..16]);
-    let rest = number(&order[16..24]);
-    (order[0] <= 200)
-        & (order[1] <= 200)
-        & (order[2] <= 200)
-        & (order[3] <= 200)
-        & (order[4] <= 200)
-        & ((1 <= order[5]) & (order[5] <= 5))
-        & (order[6] <= 200)
-        & (order[7] <= 0)
-        & ((1 <= coupling) & (coupling <= 100_000))
-        & ((1 <= admissible) & (admissible <= 100_000))
-        & (rest <= 0)
+    is_in_ranges(order, &ORDER)
 }
 
 fn order_of(order: &[u8]) -> Order

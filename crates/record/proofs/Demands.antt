@@ -1,20 +1,19 @@
--- What document 01 and request Two say of a file's records: the theorems, over the definitions of specs/. Assumes nothing.
-use Prim.Native.Nat.{ℕ, _+_, _*_, _<_}
+-- What document 01 and requests Two and Four say of a file's records: the theorems, over the definitions of specs/. Assumes nothing.
+use Prim.Native.Nat.{ℕ, _<_}
 use mathlib.Core.Path.{_≡_, refl, sym, ap, subst, _∙_}
 use mathlib.Core.Bool.{Bool, true, false, _&&_, cond}
-use mathlib.Core.List.{List, [], _∷_, _++_}
-use native.Mathlib.Nat.{le-refl, mod-lt}
-use borrow.Author.Tests.{eq-eqb}
-use lib.Dec.{lit<}
+use mathlib.Core.List.{List, [], _∷_}
+use native.Mathlib.Nat.{le-refl}
 use lib.ListN.{length, getD, take, set, length-set}
 use lib.Seq.{take-set-le, getD-set-same}
-use Rattle.record.specs.Words.{_is_, all, leading}
-use Rattle.record.specs.Closing.{digits, closes, checkDigit, Slip, unseen}
-use Rattle.record.specs.Vehicles.{nth, value, good, vehicle, reading, firstBad, foundNumber, foundPlace, readingNumber, readingPlace}
+use Rattle.lists.specs.Words.{all, leading}
+use Rattle.lists.proofs.Lists.{both, all-append, all-at, split-at}
+use Rattle.closing.specs.Closing.{digits, Slip}
+use Rattle.closing.proofs.Demands.{slip-caught}
+use Rattle.record.specs.Ranges.{Field, value, inRanges, follow, placed, goodBy}
+use Rattle.record.specs.Vehicles.{fields, nth, good, vehicle, reading, firstBad, foundNumber, foundPlace, readingNumber, readingPlace}
 use Rattle.record.specs.declared.vehicle.Found.the-variants.{At, Nothing}
 use Rattle.record.specs.declared.vehicle.Reading.the-variants.{Good, Bad}
-use Rattle.record.proofs.Lists.{both, all-append, all-at, split-at}
-use Rattle.record.proofs.Digits.{number-slip-caught, twelfth-alone, number-neighbours}
 use Rattle.record.proofs.Vehicles.{number-bad, good-closes, bad-none, bad-behind}
 
 -- ---- refusal 3
@@ -55,18 +54,7 @@ read-as-found r = go (good r)
     go false = (refl, refl)
 
 -- ---- request Two: numbers that close
--- of ten last digits one closes, the check digit
-pub twelfth-digit : (stem d : ℕ) → d < 10 → closes (10 * stem + d) ≡ (d is checkDigit stem)
-twelfth-digit = twelfth-alone
-
-pub check-digit-closes : (stem : ℕ) → closes (10 * stem + checkDigit stem) ≡ true
-check-digit-closes stem = twelfth-alone stem (checkDigit stem) (mod-lt _ (lit< tt)) ∙ eq-eqb (checkDigit stem) (checkDigit stem) refl
-
--- one digit of a number that closes mistyped: it no longer closes
-pub slip-caught : (n m : ℕ) → Slip (digits 12 n) (digits 12 m) → closes n ≡ true → closes m ≡ false
-slip-caught = number-slip-caught
-
--- and no record with it is good
+-- one digit of a good record's number mistyped: no record with it is good
 pub slip-refused : (r s : List ℕ) → good r ≡ true → Slip (digits 12 (value r (nth 0))) (digits 12 (value s (nth 0))) → good s ≡ false
 slip-refused r s g slip = number-bad s (slip-caught (value r (nth 0)) (value s (nth 0)) slip (good-closes r g))
 
@@ -81,7 +69,12 @@ slip-found rs i r h g slip =
     front : all good (take i rs) ≡ true
     front = both (all good (take i rs)) _ (sym (all-append good (take i rs) _) ∙ ap (all good) (sym (split-at rs i [] h)) ∙ g) .0
 
--- two neighbouring digits of a number that closes exchanged: it closes again where they are the same, or 0 and 9, and else not
-pub neighbours-exchanged : (n m : ℕ) (front back : List ℕ) (a b : ℕ) → digits 12 n ≡ front ++ a ∷ b ∷ back → digits 12 m ≡ front ++ b ∷ a ∷ back
-    → closes n ≡ true → closes m ≡ unseen a b
-neighbours-exchanged = number-neighbours
+-- ---- request Four: the table
+-- each byte of a record stands in one field of the table, in its order
+pub each-byte-once : follow 0 fields ≡ true
+each-byte-once = refl
+
+-- by a table whose rows are fields of a record its ranges are asked, and nothing else
+pub ranges-alone : (table : List Field) (r : List ℕ) → all placed table ≡ true → goodBy table r ≡ inRanges table r
+unfolding goodBy
+ranges-alone table r t = rw t

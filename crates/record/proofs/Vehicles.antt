@@ -1,103 +1,74 @@
--- Laws of the fields, of what is good, and of the first bad record. Assumes nothing.
-use Prim.Native.Nat.{ℕ, suc, _+_, _*_, _-_, _^_, _%_, _≤_, _<_}
+-- Laws of what is good, and of the first bad record. Assumes nothing.
+use Prim.Native.Nat.{ℕ, suc, _+_, _*_, _-_, _%_, _≤_, _<_}
 use mathlib.Core.Path.{_≡_, refl, sym, ap, _∙_}
 use mathlib.Core.List.{List, [], _∷_, _++_, map, map-append}
-use mathlib.Core.Bool.{Bool, true, false, _&&_, _||_, cond, and-true, and-false}
-use native.Mathlib.Nat.{add-zero, add-sub-cancel-left}
+use mathlib.Core.Bool.{Bool, true, false, cond, and-true, and-false}
+use native.Mathlib.Nat.{add-zero}
 use native.Mathlib.Numerals.{add-one}
 use native.Mathlib.Omega.{arith}
-use borrow.Author.Tests.{leb-true, eqb-true, eq-eqb, ne-eqb}
+use borrow.Author.Tests.{leb-true, eq-eqb, ne-eqb}
 use lib.Dec.{leb, eqb}
-use lib.ListN.{length, getD, take, drop, length-take, length-map}
-use lib.Seq.{take-suc, take-all, getD-take, getD-drop}
-use Rattle.record.specs.Words.{all, leading}
-use Rattle.record.specs.Numbers.{littleEndian}
+use lib.ListN.{length, getD, take, drop, length-map}
+use lib.Seq.{getD-take, getD-drop}
+use Rattle.lists.specs.Words.{all, leading}
+use Rattle.lists.specs.Numbers.{littleEndian}
 use Rattle.record.specs.Records.{records, recordsOf, hasByte}
-use Rattle.record.specs.Vehicles.{Field, field, fields, nth, value, fieldGood, numberCloses, good, vehicle, reading, firstBad, vehicles, isHauledEngine, isWorking, isIsolated}
+use Rattle.record.specs.Ranges.{Field, field, value, fieldGood, inRanges, fieldOf, tableOf, placed}
+use Rattle.record.specs.Vehicles.{fields, nth, VehicleRows, numberCloses, good, vehicle, reading, firstBad, vehicles, isHauledEngine, isWorking, isIsolated}
 use Rattle.record.specs.declared.vehicle.Vehicle.{Vehicle}
 use Rattle.record.specs.declared.vehicle.Reading.the-variants.{Good, Bad}
 use Rattle.record.specs.declared.vehicle.Found.{Found}
 use Rattle.record.specs.declared.vehicle.Found.the-variants.{At, Nothing}
-pub use Rattle.record.proofs.Lists.{both, all-append, all-snoc, all-not, all-at, leading-all, leading-to, chain, chain-all}
-use Rattle.record.proofs.Lists.{all-but, split-at, leading-behind, leading-map}
-use Rattle.record.proofs.Numbers.{Bytes, bytes-take, bytes-drop, number-below}
+pub use Rattle.lists.proofs.Lists.{both, all-append, all-snoc, all-not, all-at, leading-all, leading-to, chain, chain-all}
+use Rattle.lists.proofs.Lists.{all-but, split-at, leading-behind, leading-map}
+use Rattle.record.proofs.Tables.{row-at, rows-end, rows-not}
 use Rattle.record.proofs.Records.{recordAt, lentAt, part-record, records-snoc, records-split, length-records, records-append, record-alone}
 
--- ---- the table of fields
--- what one computed test says of every row: a field lies in its record, and is one, two or eight bytes wide
-abbrev narrow : Field → Bool
-narrow d = eqb (d .width) 1 || (eqb (d .width) 2 || eqb (d .width) 8)
+-- ---- rows of code that are the vehicles' table
+module _ (rows : List (List ℕ)) (known : VehicleRows rows) where
+  pub row-known : (f : ℕ) → fieldOf (getD rows f []) ≡ nth f
+  row-known f = sym (row-at rows f) ∙ ap (λ (t : List Field). getD t f (fieldOf [])) (known .1)
 
-abbrev inside : Field → Bool
-inside d = narrow d && leb (d .start + d .width) 24
+  pub row-placed : (f : ℕ) → f < 13 → placed (fieldOf (getD rows f [])) ≡ true
+  unfolding all
+  row-placed f h = ap placed (row-known f) ∙ all-at placed fields f (field 0 0 0 0) h refl
 
-insides : all inside fields ≡ true
-unfolding all
-insides = refl
+  -- each field of the rows in its range, and one out of it
+  pub rows-good : (r : List ℕ) (f : ℕ) → f ≡ 13 → all (fieldGood r) (take f (tableOf rows)) ≡ true → all (fieldGood r) fields ≡ true
+  rows-good r f z t = sym (ap (all (fieldGood r)) (known .1)) ∙ rows-end (fieldGood r) rows f (z ∙ sym (known .0)) t
 
-pub inside-at : (f : ℕ) → f < 13 → nth f .start + nth f .width ≤ 24
-inside-at f h = leb-true (nth f .start + nth f .width) 24 (both (narrow (nth f)) (leb (nth f .start + nth f .width) 24) (all-at inside fields f (field 0 0 0 0) h insides) .1)
-
--- a field that is neither one byte wide nor two is eight
-pub eight-wide : (f : ℕ) → f < 13 → (nth f .width ≡ 1 → ⊥) → (nth f .width ≡ 2 → ⊥) → nth f .width ≡ 8
-eight-wide f h not-one not-two =
-    let t = both (narrow (nth f)) (leb (nth f .start + nth f .width) 24) (all-at inside fields f (field 0 0 0 0) h insides) .0 in
-    eqb-true (nth f .width) 8 (simp (ne-eqb (nth f .width) 1 not-one, ne-eqb (nth f .width) 2 not-two) at t)
-
--- the part of a file that code lends for a number
-pub part-value : (r : List ℕ) (s w : ℕ) → w ≤ 8 → littleEndian (take 8 (take (s + w - s) (drop s r))) ≡ littleEndian (take w (drop s r))
-part-value r s w h =
-    ap (λ (n : ℕ). littleEndian (take 8 (take n (drop s r)))) (add-sub-cancel-left s w)
-    ∙ ap littleEndian (take-all 8 (take w (drop s r)) (simp length-take (omega arith)))
-
--- a field's number fits its bytes: one law for every width
-pub value-below : (r : List ℕ) (d : Field) (w : ℕ) → Bytes r → d .width ≤ w → value r d < 256 ^ w
-value-below r d w h l =
-    number-below (take (d .width) (drop (d .start) r)) w (bytes-take (d .width) (drop (d .start) r) (bytes-drop (d .start) r h))
-    (simp length-take (omega arith))
+  pub rows-bad : (r : List ℕ) (f : ℕ) → f < 13 → fieldGood r (fieldOf (getD rows f [])) ≡ false → good r ≡ false
+  unfolding good
+  rows-bad r f h e = rw (sym (ap (all (fieldGood r)) (known .1)) ∙ rows-not (fieldGood r) rows f (rw (known .0) h) e, and-false (eqb (length r) 24))
 
 -- ---- good records
--- a turn of a loop over the fields; its end; a bad field
-pub fields-more : (r : List ℕ) (f : ℕ) → f < 13 → all (fieldGood r) (take f fields) ≡ true → fieldGood r (nth f) ≡ true
-    → all (fieldGood r) (take (f + 1) fields) ≡ true
-fields-more r f h t e = rw (add-one, take-suc fields f (field 0 0 0 0) h) (all-snoc (fieldGood r) (take f fields) (nth f) t e)
-
-pub fields-good : (r : List ℕ) (f : ℕ) → length r ≡ 24 → f ≡ 13 → all (fieldGood r) (take f fields) ≡ true → numberCloses r ≡ true → good r ≡ true
+pub fields-good : (r : List ℕ) → length r ≡ 24 → all (fieldGood r) fields ≡ true → numberCloses r ≡ true → good r ≡ true
 unfolding good
-fields-good r f l z t n = rw (eq-eqb (length r) 24 l, rw z at t) n
-
-pub fields-bad : (r : List ℕ) (f : ℕ) → f < 13 → fieldGood r (nth f) ≡ false → good r ≡ false
-unfolding good
-fields-bad r f h e = rw (all-not (fieldGood r) fields f (field 0 0 0 0) h e) (and-false (eqb (length r) 24))
+fields-good r l t n = rw (eq-eqb (length r) 24 l, t) n
 
 -- a number that does not close
 pub number-bad : (r : List ℕ) → numberCloses r ≡ false → good r ≡ false
 unfolding good
-number-bad r e = rw (e, and-false (all (fieldGood r) fields)) (and-false (eqb (length r) 24))
+number-bad r e = rw e (and-false (inRanges fields r))
 
 pub length-bad : (r : List ℕ) → (length r ≡ 24 → ⊥) → good r ≡ false
 unfolding good
 length-bad r h = rw (ne-eqb (length r) 24 h)
 
-module _ (r : List ℕ) (f : ℕ) where
-  -- what a field in its range is at most
-  good-at-most : fieldGood r (nth f) ≡ true → value r (nth f) ≤ nth f .high
-  good-at-most t = leb-true (value r (nth f)) (nth f .high) (both (leb (nth f .low) (value r (nth f))) (leb (value r (nth f)) (nth f .high)) t .1)
-
-  -- where all fields are, and so of a good record
-  pub fields-at-most : (k : ℕ) → k ≡ 13 → all (fieldGood r) (take k fields) ≡ true → f < 13 → value r (nth f) ≤ nth f .high
-  fields-at-most k z t h = good-at-most (all-at (fieldGood r) fields f (field 0 0 0 0) h (rw z at t))
-
 -- what a good record's fields and number pass
 good-passes : (r : List ℕ) → good r ≡ true → (all (fieldGood r) fields ≡ true) × (numberCloses r ≡ true)
 unfolding good
-good-passes r g = both (all (fieldGood r) fields) (numberCloses r) (both (eqb (length r) 24) (all (fieldGood r) fields && numberCloses r) g .1)
+good-passes r g =
+    let t = both (inRanges fields r) (numberCloses r) g in
+    (both (eqb (length r) 24) (all (fieldGood r) fields) (t .0) .1, t .1)
 
 pub good-closes : (r : List ℕ) → good r ≡ true → numberCloses r ≡ true
 good-closes r g = good-passes r g .1
 
 pub at-most : (r : List ℕ) → good r ≡ true → (f : ℕ) → f < 13 → value r (nth f) ≤ nth f .high
-at-most r g f h = fields-at-most r f 13 refl (good-passes r g .0) h
+at-most r g f h =
+    let e = all-at (fieldGood r) fields f (field 0 0 0 0) h (good-passes r g .0) in
+    leb-true (value r (nth f)) (nth f .high) (both (leb (nth f .low) (value r (nth f))) (leb (value r (nth f)) (nth f .high)) e .1)
 
 -- a turn of a loop over the records; one that does not pass; the end: one law for every test
 module _ (p : List ℕ → Bool) (bs : List ℕ) where

@@ -6,7 +6,7 @@ use mathlib.Core.Bool.{Bool, true, false}
 use mathlib.Core.List.{List, [], _∷_, _++_, map}
 use borrow.Author.Tests.{lt-ltb}
 use lib.ListN.{length, take, drop, getD, replicate}
-use Rattle.record.specs.Words.{all, leading, Every, Case, caseAt}
+use Rattle.lists.specs.Words.{all, leading, Every, Case, caseAt}
 use Rattle.record.specs.Records.{recordCount, recordsOf}
 use Rattle.record.specs.Vehicles.{good, vehicles, isWorking}
 use Rattle.account.specs.Accounts.{accountOf}

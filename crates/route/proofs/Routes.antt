@@ -7,10 +7,10 @@ use mathlib.Core.List.{List, _++_}
 use borrow.Author.Tests.{ltb-false, not-false}
 use lib.Dec.{ltb}
 use lib.ListN.{length, drop}
-use Rattle.record.specs.Words.{_is_, _above_, all, Every, firstOf}
+use Rattle.lists.specs.Words.{_is_, _above_, all, Every, firstOf}
 use Rattle.record.specs.Records.{recordCount, recordsOf}
 use Rattle.record.specs.Vehicles.{vehicles}
-use Rattle.record.proofs.Lists.{lacking}
+use Rattle.lists.proofs.Lists.{lacking}
 use Rattle.record.proofs.Records.{length-records}
 use Rattle.account.specs.declared.Account.{Account}
 use Rattle.facts.specs.Facts.{factsOf, factsBeside}

@@ -7,7 +7,7 @@ use mathlib.Core.List.{List, [], _∷_, _++_}
 use mathlib.Core.Logic.{_⊎_, inl, inr}
 use lib.ListN.{length, getD, drop, length-append, length-drop}
 use lib.Seq.{drop-at}
-use Rattle.record.specs.Words.{all}
+use Rattle.lists.specs.Words.{all}
 use Rattle.record.specs.Records.{recordCount, recordsOf}
 use Rattle.facts.specs.declared.Facts.{Facts}
 use Rattle.order.specs.Orders.{noOrder}

@@ -8,8 +8,8 @@ use borrow.Author.Tests.{le-ltb}
 use lib.Dec.{ltb}
 use lib.ListN.{length, getD}
 use lib.Seq.{take-all}
-use Rattle.record.specs.Words.{_is_, all, leading, Every, firstOf}
-use Rattle.record.proofs.Lists.{both, all-at}
+use Rattle.lists.specs.Words.{_is_, all, leading, Every, firstOf}
+use Rattle.lists.proofs.Lists.{both, all-at}
 use Rattle.record.proofs.Records.{length-records}
 use Rattle.record.specs.Records.{records, recordCount, recordsOf}
 use Rattle.facts.specs.declared.Facts.{Facts}

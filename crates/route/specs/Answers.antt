@@ -3,7 +3,7 @@ use Prim.Native.Nat.{ℕ}
 use mathlib.Core.Bool.{Bool, not, _||_, cond}
 use mathlib.Core.List.{List, [], _∷_}
 use lib.ListN.{length}
-use Rattle.record.specs.Words.{_is_, _above_, all, Case, firstOf}
+use Rattle.lists.specs.Words.{_is_, _above_, all, Case, firstOf}
 use Rattle.record.specs.Records.{recordCount, recordsOf, isWhole}
 use Rattle.record.specs.Vehicles.{vehicles}
 use Rattle.account.specs.declared.Account.{Account}

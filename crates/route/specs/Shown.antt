@@ -3,7 +3,7 @@ use Prim.Native.Nat.{ℕ, _≤_, _<_}
 use mathlib.Core.Path.{_≡_}
 use mathlib.Core.List.{List}
 use lib.ListN.{length, drop, getD}
-use Rattle.record.specs.Words.{Every}
+use Rattle.lists.specs.Words.{Every}
 use Rattle.facts.specs.declared.Facts.{Facts}
 use Rattle.order.specs.Orders.{noOrder}
 use Rattle.order.specs.declared.Order.{Order}

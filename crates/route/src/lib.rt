@@ -1,7 +1,7 @@
 // A route: one train over up to 64 sections, in one category from end to end. The train is accounted once.
 ghost use mathlib.Core.Path.{_≡_};
 ghost use lib.ListN.{length};
-ghost use Rattle.record.specs.Words.{firstOf};
+ghost use Rattle.lists.specs.Words.{firstOf};
 ghost use Rattle.judge.specs.declared.Answer.the-variants.{Done};
 ghost use Rattle.route.specs.Answers.{sectionRefusals, trainRoute, trainSpeeds, accountRoute, accountSpeeds};
 ghost use Rattle.route.specs.Giving.{routeIn, speedsIn};

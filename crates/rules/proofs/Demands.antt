@@ -6,8 +6,8 @@ use mathlib.Core.Bool.{true, false, not, _&&_, cond}
 use mathlib.Core.List.{List, [], _∷_, _++_, map}
 use lib.IntN.{pos}
 use lib.Signed.{ltZ, _≤ℤ_}
-use Rattle.record.specs.Words.{_above_, _atMost_, Every, caseAt, First}
-use Rattle.record.proofs.Cases.{first-applies, none-applies}
+use Rattle.lists.specs.Words.{_above_, _atMost_, Every, caseAt, First}
+use Rattle.lists.proofs.Cases.{first-applies, none-applies}
 use Rattle.record.specs.declared.vehicle.Vehicle.{Vehicle}
 use Rattle.facts.specs.Facts.{factsOf}
 use Rattle.facts.specs.declared.Facts.{Facts}

@@ -6,7 +6,7 @@ use mathlib.Core.List.{List, [], _∷_, map}
 use mathlib.Core.Logic.{inl, inr}
 use borrow.Author.Tests.{le-leb, leb-true, eq-eqb, eqb-true}
 use lib.Dec.{leb, eqb}
-use Rattle.record.proofs.Lists.{both}
+use Rattle.lists.proofs.Lists.{both}
 use Rattle.facts.specs.declared.Facts.{Facts}
 use Rattle.order.specs.declared.Order.{Order}
 use Rattle.rules.specs.Categories.{speedOf}

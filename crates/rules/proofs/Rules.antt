@@ -7,7 +7,7 @@ use mathlib.Core.List.{List, [], _∷_, _++_}
 use borrow.Author.Tests.{le-leb, lt-leb, lt-ltb, le-ltb, ltb-true, ltb-false}
 use lib.Dec.{ltb}
 use lib.ListN.{length, getD}
-use Rattle.record.specs.Words.{_is_, _atMost_, leading, Every}
+use Rattle.lists.specs.Words.{_is_, _atMost_, leading, Every}
 use Rattle.facts.specs.declared.Facts.{Facts}
 use Rattle.order.specs.declared.Order.{Order}
 use Rattle.rules.specs.Categories.{lineSpeed}

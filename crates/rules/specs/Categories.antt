@@ -3,7 +3,7 @@ use Prim.Native.Nat.{ℕ, min, max}
 use mathlib.Core.Bool.{false, cond}
 use mathlib.Core.List.{List, [], _∷_}
 use lib.ListN.{drop}
-use Rattle.record.specs.Words.{_is_}
+use Rattle.lists.specs.Words.{_is_}
 use Rattle.facts.specs.declared.Facts.{Facts}
 use Rattle.order.specs.declared.Order.{Order}
 use Rattle.rules.specs.declared.category.Category.{Category}

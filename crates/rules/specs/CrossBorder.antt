@@ -2,7 +2,7 @@
 use Prim.Native.Nat.{ℕ}
 use mathlib.Core.Bool.{Bool, true, false, not, _&&_}
 use mathlib.Core.List.{List, [], _∷_, _++_}
-use Rattle.record.specs.Words.{_is_, _above_, _atMost_}
+use Rattle.lists.specs.Words.{_is_, _above_, _atMost_}
 use Rattle.facts.specs.declared.Facts.{Facts}
 use Rattle.rules.specs.Rules.{Rule, rule}
 use Rattle.rules.specs.Books.{RuleBook}

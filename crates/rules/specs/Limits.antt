@@ -3,8 +3,8 @@ use Prim.Native.Nat.{ℕ}
 use mathlib.Core.Bool.{Bool, cond}
 use mathlib.Core.List.{List, [], _∷_}
 use lib.ListN.{replicate}
-use Rattle.record.specs.Words.{_is_}
-use Rattle.record.specs.Figures.{some}
+use Rattle.lists.specs.Words.{_is_}
+use Rattle.lists.specs.Figures.{some}
 use Rattle.facts.specs.declared.Facts.{Facts}
 use Rattle.order.specs.declared.Order.{Order}
 use Rattle.rules.specs.Categories.{categoryOf}

@@ -5,8 +5,8 @@ ghost use lib.ListN.{drop};
 ghost use Rattle.rules.specs.Categories.{firstPresent, lineSpeed, speedOf, percentageOf, categoryOf};
 ghost use Rattle.rules.specs.CrossBorder.{crossRows};
 use facts::Facts;
+use lists::number::lesser;
 use order::Order;
-use record::number::lesser;
 
 // What a record set to M counts: three quarters of its M mass (note 8), or the whole.
 pub enum Weigh {

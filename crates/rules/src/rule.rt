@@ -2,7 +2,7 @@
 ghost use mathlib.Core.Path.{_≡_};
 ghost use mathlib.Core.Bool.{not, cond};
 ghost use lib.ListN.{getD};
-ghost use Rattle.record.specs.Words.{leading};
+ghost use Rattle.lists.specs.Words.{leading};
 ghost use Rattle.rules.specs.Categories.{lineSpeed};
 ghost use Rattle.rules.specs.Rules.{numbersOf, marksOf};
 ghost use Rattle.rules.specs.Brakes.{isShort};
@@ -17,9 +17,9 @@ use crate::brake::parts;
 use crate::category::Category;
 use crate::category::Weigh;
 use facts::Facts;
+use lists::number::lesser;
 use margin::Braked;
 use order::Order;
-use record::number::lesser;
 
 // What a category and the order ask beside the facts.
 pub struct Terms {

@@ -5,8 +5,8 @@ use mathlib.Core.Bool.{Bool, true, _&&_, and-true}
 use mathlib.Core.List.{List, [], _∷_, map}
 use borrow.Author.Tests.{eq-eqb, eqb-true}
 use lib.ListN.{getD}
-use Rattle.record.specs.Words.{_is_, all, Every}
-use Rattle.record.proofs.Lists.{both}
+use Rattle.lists.specs.Words.{_is_, all, Every}
+use Rattle.lists.proofs.Lists.{both}
 use Rattle.order.specs.Orders.{goodOrder, orderOf}
 use Rattle.sections.specs.Routes.{askedOn}
 use Rattle.sections.specs.Sections.{goodSection}

@@ -7,9 +7,9 @@ use mathlib.Core.List.{List, [], _∷_, _++_}
 use mathlib.Core.Logic.{_⊎_, ⊎-elim}
 use lib.ListN.{length, getD, take, drop, replicate, length-map}
 use lib.Seq.{take-all}
-use Rattle.record.specs.Words.{all, Every}
+use Rattle.lists.specs.Words.{all, Every}
 use Rattle.record.specs.Records.{recordCount, recordsOf}
-use Rattle.record.proofs.Lists.{leading-behind}
+use Rattle.lists.proofs.Lists.{leading-behind}
 use Rattle.record.proofs.Records.{length-records}
 use Rattle.facts.specs.declared.Facts.{Facts}
 use Rattle.order.specs.Orders.{goodOrder, noOrder}

@@ -6,8 +6,8 @@ use mathlib.Core.Bool.{Bool, true, false, cond}
 use mathlib.Core.List.{List, [], _∷_, map}
 use mathlib.Core.Logic.{_⊎_, inl, inr, ⊎-elim}
 use borrow.Author.Tests.{eq-eqb, eqb-true, eqb-false}
-use Rattle.record.specs.Words.{_is_, Every}
-use Rattle.record.proofs.Lists.{every-map}
+use Rattle.lists.specs.Words.{_is_, Every}
+use Rattle.lists.proofs.Lists.{every-map}
 use Rattle.facts.specs.declared.Facts.{Facts}
 use Rattle.order.specs.declared.Order.{Order}
 use Rattle.rules.specs.Categories.{speedOf}

@@ -7,8 +7,8 @@ use mathlib.Core.Path.{_≡_, refl, ap, ap₂, _∙_, sym}
 use mathlib.Core.List.{List, [], _∷_}
 use mathlib.Core.Logic.{inl, inr}
 use lib.ListN.{length, getD, replicate}
-use Rattle.record.specs.Words.{Every}
-use Rattle.record.proofs.Lists.{every-map}
+use Rattle.lists.specs.Words.{Every}
+use Rattle.lists.proofs.Lists.{every-map}
 use Rattle.facts.specs.declared.Facts.{Facts}
 use Rattle.order.specs.Orders.{noOrder}
 use Rattle.order.specs.declared.Order.{Order}

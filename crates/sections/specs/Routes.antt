@@ -3,8 +3,8 @@ use Prim.Native.Nat.{ℕ, _≤_}
 use mathlib.Core.Path.{_≡_}
 use mathlib.Core.List.{List, [], _∷_, map}
 use mathlib.Core.Logic.{_⊎_}
-use Rattle.record.specs.Words.{Every}
-use Rattle.record.specs.Figures.{least}
+use Rattle.lists.specs.Words.{Every}
+use Rattle.lists.specs.Figures.{least}
 use Rattle.facts.specs.declared.Facts.{Facts}
 use Rattle.order.specs.declared.Order.{Order}
 use Rattle.rules.specs.Categories.{firstPresent, speedOf, categoryOf}

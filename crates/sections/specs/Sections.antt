@@ -3,7 +3,7 @@ use Prim.Native.Nat.{ℕ}
 use mathlib.Core.Bool.{Bool, _&&_}
 use mathlib.Core.List.{List, _++_, map}
 use lib.ListN.{length, take, drop}
-use Rattle.record.specs.Words.{_is_, leading}
+use Rattle.lists.specs.Words.{_is_, leading}
 use Rattle.record.specs.Records.{recordsOf}
 use Rattle.order.specs.Orders.{goodOrder, orderOf}
 use Rattle.order.specs.declared.Order.{Order}

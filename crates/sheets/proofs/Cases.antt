@@ -1,6 +1,6 @@
 -- Cases A to H of document 01 in a single table, with one proof about the definitions. Assumes nothing.
 use mathlib.Core.Path.{_≡_, refl}
-use Rattle.record.specs.Numbers.{littleEndian}
+use Rattle.lists.specs.Numbers.{littleEndian}
 use Rattle.record.specs.Records.{records}
 use Rattle.record.specs.Vehicles.{vehicle}
 use Rattle.margin.specs.Margin.{fourfold, marginOf}

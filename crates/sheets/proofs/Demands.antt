@@ -6,7 +6,7 @@ use mathlib.Core.List.{[], map}
 use lib.IntN.{ℤ, pos}
 use lib.ListN.{length, getD, take, drop}
 use lib.Signed.{ltZ}
-use Rattle.record.specs.Numbers.{fourBytes}
+use Rattle.lists.specs.Numbers.{fourBytes}
 use Rattle.margin.specs.Margin.{tonnesOf, signedOf}
 use Rattle.margin.proofs.Demands.{read-back-margin, below-zero}
 use Rattle.facts.specs.declared.Facts.{Facts}

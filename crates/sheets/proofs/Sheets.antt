@@ -5,7 +5,7 @@ use mathlib.Core.Path.{_≡_, sym, ap₂}
 use mathlib.Core.Bool.{Bool, true, false, cond}
 use mathlib.Core.List.{List, [], _∷_}
 use lib.ListN.{length, getD}
-use Rattle.record.specs.Words.{_is_, _atMost_, Every}
+use Rattle.lists.specs.Words.{_is_, _atMost_, Every}
 use Rattle.margin.specs.Margin.{fourfold, Reached}
 use Rattle.facts.specs.declared.Facts.{Facts}
 use Rattle.order.specs.declared.Order.{Order}
@@ -18,7 +18,7 @@ use Rattle.rules.specs.Grants.{decisionOf}
 use Rattle.rules.specs.declared.category.Category.{Category}
 use Rattle.rules.specs.declared.category.Weigh.{Weigh}
 use Rattle.rules.specs.declared.category.Weigh.the-variants.{ThreeQuarters, Whole}
-use Rattle.record.proofs.Lists.{spelled, spell}
+use Rattle.lists.proofs.Lists.{spelled, spell}
 use Rattle.rules.proofs.Demands.{first-up-to}
 use Rattle.sheets.specs.Sheets.{askedOf, sheetBytes}
 use Rattle.sheets.specs.declared.Sheet.{Sheet}

@@ -3,7 +3,7 @@ use Prim.Native.Nat.{ℕ}
 use mathlib.Core.List.{List, [], _∷_, _++_}
 use lib.IntN.{ℤ, pos, negℤ}
 use lib.ListN.{take, drop, getD, replicate}
-use Rattle.record.specs.Numbers.{fourBytes, twoBytes}
+use Rattle.lists.specs.Numbers.{fourBytes, twoBytes}
 use Rattle.record.specs.Vehicles.{vehicles}
 use Rattle.record.specs.declared.vehicle.Vehicle.{Vehicle}
 use Rattle.facts.specs.Facts.{factsOf}

@@ -2,7 +2,7 @@
 use Prim.Native.Nat.{ℕ}
 use mathlib.Core.Bool.{cond}
 use mathlib.Core.List.{List, [], _∷_, _++_}
-use Rattle.record.specs.Numbers.{fourBytes}
+use Rattle.lists.specs.Numbers.{fourBytes}
 use Rattle.margin.specs.Margin.{tonnesOf, bytesOf}
 use Rattle.facts.specs.declared.Facts.{Facts}
 use Rattle.order.specs.declared.Order.{Order}

@@ -1,7 +1,7 @@
 // The sheet: its figures, and its bytes.
 ghost use mathlib.Core.Path.{_≡_};
 ghost use mathlib.Core.Bool.{cond};
-ghost use Rattle.record.specs.Words.{_atMost_};
+ghost use Rattle.lists.specs.Words.{_atMost_};
 ghost use Rattle.margin.specs.Margin.{tonnesOf, bytesOf};
 ghost use Rattle.rules.specs.Brakes.{marginFor};
 ghost use Rattle.rules.specs.CrossBorder.{crossBorder};

@@ -5,7 +5,7 @@ use mathlib.Core.Bool.{true, false, _&&_}
 use mathlib.Core.List.{List, [], _++_}
 use mathlib.Core.Logic.{_⊎_}
 use lib.ListN.{length}
-use Rattle.record.specs.Words.{all}
+use Rattle.lists.specs.Words.{all}
 use Rattle.record.specs.Records.{recordCount, records, recordsOf}
 use Rattle.speed.specs.Speed.{firstWith, wholeGood, slowestOf, holdsTheSpeed, Holds}
 use Rattle.speed.proofs.Speeds as speeds

@@ -12,10 +12,10 @@ use lib.Dec.{ltb, leb}
 use lib.ListN.{length, getD, take, length-take, length-append, List·getD-append}
 use lib.Seq.{take-suc, getD-append-add}
 use native.Mathlib.Decide.{decLe, decLt}
-use Rattle.record.specs.Words.{all}
+use Rattle.lists.specs.Words.{all}
 use Rattle.record.specs.Records.{recordCount, recordsOf}
 use Rattle.record.proofs.Records.{recordAt, length-records, records-at, record-length}
-use Rattle.record.proofs.Lists.{all-not, all-from, length-zero}
+use Rattle.lists.proofs.Lists.{all-not, all-from, length-zero}
 use Rattle.speed.specs.Speed.{firstWith, byte20, slowestOf, wholeGood, holdsTheSpeed, Holds}
 
 -- ---- the first that has p

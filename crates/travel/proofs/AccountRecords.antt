@@ -9,8 +9,8 @@ use native.Mathlib.Omega.{arith}
 use borrow.Author.Tests.{leb-true, leb-false, le-leb, lt-leb, eqb-true, eq-eqb, ne-eqb}
 use lib.ListN.{length, getD, drop, set, drop-of-length-le}
 use lib.Seq.{drop-cons, sets}
-use Rattle.record.specs.Words.{_is_, _atMost_, all, Every}
-use Rattle.record.specs.Numbers.{littleEndian}
+use Rattle.lists.specs.Words.{_is_, _atMost_, all, Every}
+use Rattle.lists.specs.Numbers.{littleEndian}
 use Rattle.record.proofs.Vehicles.{both, chain, chain-all}
 use Rattle.account.specs.Ceilings.{within, Within}
 use Rattle.account.specs.declared.Account.{Account}

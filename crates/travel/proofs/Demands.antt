@@ -3,7 +3,7 @@ use Prim.Native.Nat.{ℕ, _≤_}
 use mathlib.Core.Path.{_≡_, refl}
 use mathlib.Core.List.{List}
 use lib.ListN.{length}
-use Rattle.record.specs.Words.{Every}
+use Rattle.lists.specs.Words.{Every}
 use Rattle.account.specs.Ceilings.{within, Within}
 use Rattle.account.specs.declared.Account.{Account}
 use Rattle.travel.specs.AccountRecords.{isAccount, offered, recordOf}

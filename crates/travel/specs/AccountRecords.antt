@@ -3,8 +3,8 @@ use Prim.Native.Nat.{ℕ, _/_, _%_, _-_, min}
 use mathlib.Core.Bool.{Bool, _&&_, cond}
 use mathlib.Core.List.{List, [], _∷_, _++_, map}
 use lib.ListN.{length, getD, take, drop, replicate}
-use Rattle.record.specs.Words.{_is_, _atMost_, all}
-use Rattle.record.specs.Numbers.{littleEndian}
+use Rattle.lists.specs.Words.{_is_, _atMost_, all}
+use Rattle.lists.specs.Numbers.{littleEndian}
 use Rattle.account.specs.Ceilings.{within}
 use Rattle.account.specs.declared.Account.{Account}
 

@@ -3,10 +3,10 @@ ghost use mathlib.Core.Path.{_≡_};
 ghost use Prim.Native.Nat.{_+_, _<_, _≤_};
 ghost use lib.ListN.{length};
 ghost use lib.Seq.{sets};
-ghost use Rattle.record.specs.Words.{_is_, all};
+ghost use Rattle.lists.specs.Words.{_is_, all};
 ghost use Rattle.travel.specs.AccountRecords.{size, unusedIn, figureAt, byteAt, accountIn, isPlain, aboveCeiling, offered, figureBytes, mark, settingByte, recordOf};
 use account::Account;
-use record::number::number;
+use lists::number::number;
 
 // The bytes of an account.
 pub const SIZE: usize = 128;

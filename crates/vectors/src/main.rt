@@ -3,7 +3,7 @@ use input::Input;
 use libc::STDERR_FILENO;
 use libc::STDIN_FILENO;
 use libc::STDOUT_FILENO;
-use record::number::number;
+use lists::number::number;
 
 // Whose input it is.
 const SHEET: u8 = 0;

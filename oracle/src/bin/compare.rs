@@ -1,4 +1,4 @@
-//! The product's static library against the model: differences, time and instructions.
+//! The product's static library against the model: differences, ranges, time and instructions.
 
 use std::process::ExitCode;
 use std::sync::atomic::{AtomicU64, Ordering};
@@ -8,10 +8,11 @@ use std::time::Duration;
 use oracle::call::{Model, Side};
 use oracle::coverage::Scope;
 use oracle::diff::{Report, Run, KINDS};
-use oracle::speed;
+use oracle::{ranges, speed};
 
 const USAGE: &str = "usage: compare diff SEED TRAINS JOINS ROUTES NUMBERS
        compare soak N [SEED]
+       compare ranges FILE
        compare speed
        compare instructions library|model train|account|join|judge|refusal|route|sheets SIZE REPEAT";
 
@@ -206,6 +207,7 @@ fn main() -> ExitCode {
             (Some(cases), Some(seed)) => Some(soak(cases, seed)),
             _ => None,
         },
+        ["ranges", file] => Some(ranges(file)),
         ["speed"] => {
             print!("{}", speed::table(&Library));
             Some(ExitCode::SUCCESS)
@@ -268,6 +270,20 @@ fn soak(cases: u64, seed: u64) -> ExitCode {
         report
     });
     finish(&report)
+}
+
+/// The page of ranges against both.
+fn ranges(file: &str) -> ExitCode {
+    match ranges::hold_file(&Library, file) {
+        Ok(held) => {
+            print!("{}", held.text());
+            ExitCode::from(u8::from(!held.is_good()))
+        }
+        Err(fault) => {
+            eprintln!("compare: {fault}");
+            ExitCode::FAILURE
+        }
+    }
 }
 
 /// Tells on stderr how far the threads are.

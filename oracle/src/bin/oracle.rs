@@ -1,4 +1,4 @@
-//! The model alone: SHEET's and ROUTE's lines, files of cases with their lines, and counts.
+//! The model alone: SHEET's and ROUTE's lines, files of cases with their lines, counts, and the page of ranges.
 
 use std::fs;
 use std::io::{self, Read, Write};
@@ -12,9 +12,10 @@ use oracle::diff::Run;
 use oracle::gen::cases::{cases, worked_route};
 use oracle::gen::vectors::{inputs, route_inputs};
 use oracle::line::{line, route_line, route_parts, MOST_INPUT, MOST_ROUTE};
+use oracle::ranges::hold_file;
 use oracle::route::SECTIONS;
 
-const USAGE: &str = "usage: oracle line | oracle route | oracle vectors DIR SEED SHEETS ROUTES | oracle counts SEED N";
+const USAGE: &str = "usage: oracle line | oracle route | oracle vectors DIR SEED SHEETS ROUTES | oracle counts SEED N | oracle ranges FILE";
 
 /// The byte before an input that says whose it is.
 const SHEETS: u8 = 0;
@@ -38,6 +39,7 @@ fn main() -> ExitCode {
             (Ok(seed), Ok(cases)) => counts(seed, cases),
             _ => Err(io::Error::other(USAGE)),
         },
+        ["ranges", file] => ranges(file),
         _ => Err(io::Error::other(USAGE)),
     };
     outcome.unwrap_or_else(|error| {
@@ -138,6 +140,13 @@ fn counts(seed: u64, cases: u64) -> io::Result<ExitCode> {
     // A number brings some 150 calls, so a fortieth of them is enough.
     let report = run.cases(0..cases, 0..cases, 0..cases, 0..cases / 40);
     Ok(finish(&report.coverage, Scope::Functions))
+}
+
+/// The page against the model alone.
+fn ranges(file: &str) -> io::Result<ExitCode> {
+    let held = hold_file(&Model, file).map_err(io::Error::other)?;
+    print!("{}", held.text());
+    Ok(ExitCode::from(u8::from(!held.is_good())))
 }
 
 fn finish(coverage: &Coverage, scope: Scope) -> ExitCode {

@@ -7,6 +7,7 @@ use crate::random::Random;
 use crate::vehicle::{HAULED_ENGINE, VEHICLE, WAGON, WORKING_ENGINE};
 
 /// The offset, width and range of a field.
+#[derive(Clone, Copy, Debug, PartialEq, Eq)]
 pub struct Span {
     pub at: usize,
     pub width: usize,
@@ -70,6 +71,10 @@ impl Span {
         let mut bytes = [0; 8];
         bytes[..self.width].copy_from_slice(&record[self.at..self.at + self.width]);
         u64::from_le_bytes(bytes)
+    }
+
+    pub fn has(&self, value: u64) -> bool {
+        (self.low..=self.high).contains(&value)
     }
 
     pub fn greatest(&self) -> u64 {

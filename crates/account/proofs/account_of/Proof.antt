@@ -6,7 +6,7 @@ use mathlib.Core.Bool.{true}
 use mathlib.Core.List.{map}
 use borrow.Author.Tests.{eq-eqb}
 use denote.Ref.{now}
-use Rattle.record.specs.Words.{all}
+use Rattle.lists.specs.Words.{all}
 use Rattle.record.specs.Records.{recordCount, records}
 use Rattle.record.proofs.Records.{recordAt}
 use Rattle.record.specs.Vehicles.{good, vehicle, vehicles, isWorking}

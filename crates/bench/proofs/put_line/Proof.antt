@@ -1,7 +1,7 @@
 -- `bench::put_line` meets its contract: text behind text. Assumes nothing.
 use native.Mathlib.Omega.{arith}
 use denote.Ref.{now}
-use Rattle.record.specs.Words.{_is_}
+use Rattle.lists.specs.Words.{_is_}
 use Rattle.bench.specs.Texts.{lastField}
 use Rattle.bench.specs.Lines.{answerFields, lineBy}
 use Rattle.bench.proofs.Texts.{put-length, text-on}

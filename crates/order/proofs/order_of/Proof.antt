@@ -4,12 +4,12 @@ use native.Mathlib.Omega.{arith}
 use mathlib.Core.Path.{_≡_, sym, _∙_}
 use denote.Ref.{now}
 use lib.ListN.{getD, take, drop}
-use Rattle.record.specs.Numbers.{littleEndian}
+use Rattle.lists.specs.Numbers.{littleEndian}
 use mathlib.Core.List.{[], _∷_}
-use Rattle.record.specs.Vehicles.{field}
-use Rattle.record.proofs.Vehicles.{part-value, value-below}
+use Rattle.record.specs.Ranges.{field}
+use Rattle.record.proofs.Tables.{part-value, value-below}
 use Rattle.order.specs.Orders.{orderOf}
-use Rattle.record.proofs.Numbers.{number-one}
+use Rattle.lists.proofs.Numbers.{number-one}
 use borrow.Author.Needs.{needs}
 use Rattle.order.proofs.order_of.Statement.{statement}
 use Rattle.order.proofs.order_of.Tie as tie

@@ -1,6 +1,6 @@
 -- `travel::above_ceiling` meets its contract: it is what the bytes hold. Assumes nothing.
 use mathlib.Core.Path.{refl}
-use Rattle.record.specs.Numbers.{littleEndian}
+use Rattle.lists.specs.Numbers.{littleEndian}
 use Rattle.travel.specs.AccountRecords.{accountIn}
 use Rattle.travel.proofs.above_ceiling.Statement.{statement}
 use Rattle.travel.proofs.above_ceiling.Tie as tie

@@ -1,6 +1,6 @@
 -- `travel::account_in` meets its contract, figure by figure. Assumes nothing.
 use denote.Ref.{now}
-use Rattle.record.specs.Words.{_is_}
+use Rattle.lists.specs.Words.{_is_}
 use Rattle.travel.specs.AccountRecords.{byteAt, accountIn}
 use borrow.Author.Needs.{needs}
 use Rattle.travel.proofs.account_in.Statement.{statement}

@@ -12,7 +12,7 @@ use Rattle.account.specs.Accounts.{accountOf}
 use Rattle.account.specs.Gathering.{runningOf}
 use Rattle.account.specs.declared.gather.Running.{Running}
 use Rattle.record.proofs.Vehicles.{length-vehicles}
-use Rattle.record.proofs.Figures.{leading-le, some-count, lack-count}
+use Rattle.lists.proofs.Figures.{leading-le, some-count, lack-count}
 use Rattle.account.proofs.Joins.{each-hauled}
 use Rattle.account.proofs.Gathers.{behind-ahead}
 use borrow.Author.Needs.{needs}

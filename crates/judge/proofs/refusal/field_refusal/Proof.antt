@@ -2,7 +2,7 @@
 use mathlib.Core.Path.{_≡_, sym, ap, _∙_}
 use mathlib.Core.Bool.{Bool, true, false, not, cond}
 use denote.Ref.{now}
-use Rattle.record.specs.Words.{all, leading}
+use Rattle.lists.specs.Words.{all, leading}
 use Rattle.record.specs.Records.{recordsOf}
 use Rattle.record.specs.Vehicles.{good}
 use Rattle.record.proofs.Vehicles.{isNothing, bad-is, bad-place}

@@ -4,7 +4,7 @@ use mathlib.Core.List.{List}
 use mathlib.Core.Path.{sym, ap₂}
 use borrow.Author.Needs.{needs}
 use Rattle.rules.specs.Grants.{bestOf, offersFrom}
-use Rattle.record.proofs.Lists.{spell}
+use Rattle.lists.proofs.Lists.{spell}
 use Rattle.rules.proofs.grant.choose.Statement.{statement}
 use Rattle.rules.proofs.grant.choose.Tie as tie
 

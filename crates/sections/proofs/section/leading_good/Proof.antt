@@ -5,7 +5,7 @@ use mathlib.Core.Path.{_≡_, refl, sym, _∙_}
 use mathlib.Core.Bool.{true}
 use borrow.Author.Tests.{not-true, not-false}
 use denote.Ref.{now}
-use Rattle.record.specs.Words.{all}
+use Rattle.lists.specs.Words.{all}
 use Rattle.record.specs.Records.{recordCount, records}
 use Rattle.record.proofs.Vehicles.{passing-more, passing-ends, passing-whole}
 use Rattle.sections.specs.Sections.{askedIn, goodSection}
