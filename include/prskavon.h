@@ -52,13 +52,20 @@
  *   left being doubled first and their digits added: 218124712173 sums to 40. One that does not is out of range.
  *
  * An order, 24 bytes
- *     0-4    the line's limits for the columns ME120, ME100, MA100, MA90, MA80: 0 to 200, 0 where the column is missing
- *     5      category asked: 1 ME120/P120, 2 ME100/P100, 3 MA100/P100, 4 MA100/G100, 5 MA90/G90
+ *     bytes  field                                              range
+ *     0      the line's limit for ME120; 0 is a missing column  0 to 200
+ *     1      the line's limit for ME100; 0 is a missing column  0 to 200
+ *     2      the line's limit for MA100; 0 is a missing column  0 to 200
+ *     3      the line's limit for MA90; 0 is a missing column   0 to 200
+ *     4      the line's limit for MA80; 0 is a missing column   0 to 200
+ *     5      category asked                                     1 to 5
  *     6      percentage in the German timetable                 0 to 200
- *     7      always 0
+ *     7      always 0                                           0
  *     8-11   coupling limit (LRA)                               1 to 100,000
  *     12-15  admissible mass                                    1 to 100,000
- *     16-23  always 0
+ *     16-23  always 0                                           0
+ *
+ *   The categories: 1 ME120/P120, 2 ME100/P100, 3 MA100/P100, 4 MA100/G100, 5 MA90/G90.
  *
  * The orders of a route: 1 to 64 orders one behind the other, a section each, all with the same category asked
  *

@@ -11,12 +11,12 @@ use Rattle.lists.specs.Words.{all, Every}
 use Rattle.record.specs.Ranges.{value}
 use Rattle.record.specs.Vehicles.{nth, vehicle, isHauledEngine, isIsolated, isM, isV, hasDLoad}
 use Rattle.record.specs.declared.vehicle.Vehicle.{Vehicle}
-use Rattle.record.proofs.Vehicles.{both, chain, chain-all, at-most}
+use Rattle.record.proofs.Vehicles.{at-most}
 use Rattle.account.specs.Accounts.{accountOf}
 use Rattle.account.specs.Ceilings.{Figure, _upTo_, figures, within, Within}
 use Rattle.account.specs.Groupings.{GoodHauled, Portion}
 use Rattle.account.specs.declared.Account.{Account}
-use Rattle.lists.proofs.Lists.{every-left, every-right, every-at}
+use Rattle.lists.proofs.Lists.{both, chain, chain-all, every-left, every-right, every-at}
 use Rattle.lists.proofs.Figures.{sum-le, count-le, cond-le, leading-le, longest-le, least-top, firsts-le}
 
 -- ---- the test and the statement, over any table of figures

@@ -8,7 +8,7 @@ use native.Mathlib.Omega.{arith}
 use borrow.Author.Tests.{eqb-true}
 use lib.Dec.{eqb}
 use lib.ListN.{length, getD}
-use Rattle.record.proofs.Vehicles.{both}
+use Rattle.lists.proofs.Lists.{both}
 
 module _ (rule : ℕ → ℕ) where
   -- each entry is what the rule gives of its place, counted from i

@@ -14,7 +14,8 @@ use lib.Dec.{eqb}
 use Rattle.record.specs.Vehicles.{good, vehicle, vehicles, reading, isIsolated, isM, isV, isR, isJoined, hasDLoad}
 use Rattle.record.specs.declared.vehicle.Vehicle.{Vehicle}
 use Rattle.record.specs.declared.vehicle.Reading.the-variants.{Good, Bad}
-use Rattle.record.proofs.Vehicles.{both, at-most, reading-good, reading-bad, length-bad}
+use Rattle.lists.proofs.Lists.{both}
+use Rattle.record.proofs.Vehicles.{at-most, reading-good, reading-bad, length-bad}
 use Rattle.lists.specs.Figures.{count}
 use Rattle.lists.proofs.Figures.{sum-append, count-append, some-append, least-append, cond-le}
 use Rattle.facts.specs.Engines.{enginesOf, taken, enginesIn, GoodEngines, bothOf}

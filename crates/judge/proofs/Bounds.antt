@@ -10,7 +10,7 @@ use lib.ListN.{length, drop}
 use Rattle.lists.specs.Words.{all, leading, firstOf}
 use Rattle.record.specs.Ranges.{field, fieldGood}
 use Rattle.record.specs.Vehicles.{vehicles, isWorking}
-use Rattle.record.proofs.Vehicles.{both, all-at}
+use Rattle.lists.proofs.Lists.{both, all-at}
 use Rattle.account.specs.Portions.{accounted}
 use Rattle.account.specs.declared.Account.{Account}
 use Rattle.order.specs.Orders.{orderFields, goodOrder, orderOf, orderValue}

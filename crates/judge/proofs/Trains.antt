@@ -13,7 +13,7 @@ use Rattle.record.specs.Records.{recordCount, recordsOf}
 use Rattle.record.specs.Vehicles.{good, vehicles, isWorking}
 use Rattle.record.specs.declared.vehicle.Vehicle.{Vehicle}
 use Rattle.record.proofs.Records.{records-append}
-use Rattle.record.proofs.Vehicles.{both, all-append, length-vehicles, vehicles-append}
+use Rattle.record.proofs.Vehicles.{length-vehicles, vehicles-append}
 use Rattle.lists.specs.Figures.{some, firstIs}
 use Rattle.account.specs.Accounts.{accountOf}
 use Rattle.account.specs.Ceilings.{Within}
@@ -22,7 +22,7 @@ use Rattle.account.specs.Portions.{accounted}
 use Rattle.account.specs.declared.Accounted.{Accounted}
 use Rattle.account.specs.declared.Answer.{Answer as Portion}
 use Rattle.account.specs.declared.Answer.the-variants.{Done as PortionDone, NotWhole, TooMany, BadField, WorkingEngine, AboveCeiling}
-use Rattle.lists.proofs.Lists.{every-map, leading-each}
+use Rattle.lists.proofs.Lists.{both, all-append, every-map, leading-each}
 use Rattle.lists.proofs.Figures.{leading-le, first-leading, none-first}
 use Rattle.account.proofs.Demands.{within-ceilings, answer-6, answer-0, hauled-each, portion-done-exactly}
 use Rattle.facts.specs.Engines.{GoodEngines}

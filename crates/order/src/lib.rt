@@ -1,7 +1,8 @@
 // The order record: what the line and the yard ask.
 ghost use mathlib.Core.Path.{_≡_};
 ghost use lib.ListN.{length};
-ghost use Rattle.order.specs.Orders.{goodOrder, orderOf, orderRead};
+ghost use Rattle.record.specs.Ranges.{tableOf};
+ghost use Rattle.order.specs.Orders.{orderFields, goodOrder, orderOf, orderRead};
 use lists::number::number;
 use record::ranges::is_in_ranges;
 use record::vehicle::SIZE;
@@ -41,11 +42,19 @@ pub const ORDER: [[u64; 4]; 11] = [
     [16, 8, 0, 0], // always 0
 ];
 
+// Whether an order has every field of the lent table, which is this one, in its range.
+fn is_in_table(order: &[u8], table: &[[u64; 4]]) -> bool
+    requires { ⌜ tableOf (now table) ≡ orderFields ⌝ }
+    ensures { λ r. ⌜ r ≡ goodOrder (now (order .entry)) ⌝ }
+{
+    is_in_ranges(order, table)
+}
+
 // Refusal 4 is for the rest.
 pub fn is_good_order(order: &[u8]) -> bool
     ensures { λ r. ⌜ r ≡ goodOrder (now (order .entry)) ⌝ }
 {
-    is_in_ranges(order, &ORDER)
+    is_in_table(order, &ORDER)
 }
 
 fn order_of(order: &[u8]) -> Order

@@ -11,7 +11,7 @@ use lib.ListN.{length, getD, drop, set, drop-of-length-le}
 use lib.Seq.{drop-cons, sets}
 use Rattle.lists.specs.Words.{_is_, _atMost_, all, Every}
 use Rattle.lists.specs.Numbers.{littleEndian}
-use Rattle.record.proofs.Vehicles.{both, chain, chain-all}
+use Rattle.lists.proofs.Lists.{both, chain, chain-all}
 use Rattle.account.specs.Ceilings.{within, Within}
 use Rattle.account.specs.declared.Account.{Account}
 use Rattle.account.proofs.Demands.{figure-at}
