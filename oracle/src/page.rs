@@ -266,7 +266,9 @@ pub mod tests {
     fn other_tables_are_refused() {
         let ([columns, _], [_, (_, order)]) = (COLUMNS, TABLES);
         let elsewhere = format!("the table is not under \"{order}\"");
-        assert_fault(order, "## The order record", 4, &elsewhere);
+        let (_, behind) = PAGE.split_once(order).expect("the page has the heading");
+        let below = behind.lines().take_while(|line| !line.contains('|'));
+        assert_fault(order, "## The order record", below.count(), &elsewhere);
         assert_fault("One thing", columns, 0, &elsewhere);
         let last = page_rows()[23].line();
         assert_fault(&last, &format!("{last}\n\n{columns}"), 2, "a third table");
