@@ -118,7 +118,7 @@
  *   to 68; 128 zeros are an account too, but one whose slowest speed is 0. A figure once given its bytes
  *   never moves; figures to come take unused ones.
  *
- *   In categories 1 to 3 the length deduction (one percent for each begun 20 m above 500 m, at most ten) and rule 46 read
+ *   In categories 1 to 3 the length deduction (one percent for each begun 20 m above 500 m, at most ten) reads
  *   bytes 69-72 and no working engine's length; rule 22 reads bytes 16-19. An account that was kept from before bytes
  *   69-72 held this figure has 0 there, is taken, and is judged without the deduction, and an account joined from it has
  *   too little there: make both again from the records.

@@ -194,6 +194,7 @@ mod tests {
     use crate::gen::cases::{case_a, worked_sections};
     use crate::gen::draft::{bytes, Draft};
     use crate::gen::routes::written;
+    use crate::line::hex;
     use crate::vehicle::{Vehicle, ISOLATED, SET_TO_M, SET_TO_R};
 
     fn sheet_of(draft: &Draft) -> [u8; SHEET] {
@@ -234,7 +235,7 @@ mod tests {
     }
 
     /// Case A's engine beside its account with other figures; 600.0 t are braked.
-    fn sheet_beside(change: fn(&mut Account)) -> [u8; SHEET] {
+    fn sheet_beside(change: impl Fn(&mut Account)) -> [u8; SHEET] {
         let draft = case_a();
         let mut account = Account::of(bytes(&draft.hauled).as_chunks().0);
         change(&mut account);
@@ -245,27 +246,40 @@ mod tests {
         room
     }
 
-    /// The hauled part is 150 m long whatever its vehicles set to V are said to be.
+    /// The hauled part is 150 m long, whatever its vehicles set to V are said to be. Q is 4 x 6,000, and 90 percent make 2,160,000,
+    /// so 540.0 t. Category 1 needs 4 x 77 x 6,900 = 2,125,200: 34,800 are over, 8 t. With k not held at 10 there would be
+    /// 24,000 x 89 and 534.0 t from 700.1 m on, and from 720.1 m on 24,000 x 88 = 2,112,000, so rule 47.
     #[test]
-    fn an_account_that_no_list_has_meets_rule_46() {
-        let braked = |sheet: [u8; SHEET]| u16::from_le_bytes([sheet[24], sheet[25]]);
-        let at = sheet_beside(|account| account.length_v = 7_000);
-        assert_eq!((&at[4..7], braked(at)), (&[0; 3][..], 5_400));
-        let above = sheet_beside(|account| account.length_v = 7_001);
-        assert_eq!((&above[4..7], braked(above)), (&[46; 3][..], 5_400));
-        assert_eq!((above[1], above[3]), (0, 0));
-        let most = sheet_beside(|account| account.length_v = 200_000);
-        assert_eq!((&most[4..7], braked(most)), (&[46; 3][..], 5_400));
+    fn more_than_700_m_set_to_v_break_no_rule() {
+        let sheet = "010164000000002020000800004d000070170000f41a000018150000a4060000";
+        for length_v in [6_801, 7_000, 7_001, 7_201, 200_000] {
+            let found = sheet_beside(|account| account.length_v = length_v);
+            assert_eq!(hex(&found), sheet, "{length_v}");
+        }
+    }
+
+    /// Q is 4 x (1,000 + 4,860), and 90 percent make 2,109,600, so 527.4 t: 15,600 are short of what category 1 needs, so -4 t, and
+    /// 2 and 3 need 4 x 60 x 6,900 = 1,656,000. With the engine's 100 t alone there are 4,000 x 90 = 360,000, so 90.0 t and -442 t.
+    #[test]
+    fn rule_47_stands_where_the_margin_is_short() {
+        let short = |braked_v: u32| {
+            let change = |account: &mut Account| {
+                (account.length_v, account.braked_v) = (7_001, braked_v);
+            };
+            hex(&sheet_beside(change))
+        };
+        let in_one = "010264002f0000202000fcffff4d000070170000f41a00009a140000a4060000";
+        assert_eq!(short(4_860), in_one);
+        let in_all = "010000002f2f2f22220046feff4d000070170000f41a000084030000a4060000";
+        assert_eq!(short(0), in_all);
     }
 
     #[test]
-    fn rule_46_keeps_its_place() {
-        let behind_42 = sheet_beside(|account| (account.length_v, account.mass) = (7_001, 8_001));
-        assert_eq!(behind_42[4..7], [42; 3]);
-        let before_47 = sheet_beside(|account| (account.length_v, account.braked_v) = (7_001, 0));
-        assert_eq!(before_47[4..7], [46; 3]);
-        let behind_22 = sheet_beside(|account| (account.length_v, account.length) = (7_001, 7_001));
-        assert_eq!(behind_22[3..9], [22; 6]);
+    fn other_rules_stand_where_they_were() {
+        let with_42 = sheet_beside(|account| (account.length_v, account.mass) = (7_001, 8_001));
+        assert_eq!(with_42[4..7], [42; 3]);
+        let with_22 = sheet_beside(|account| (account.length_v, account.length) = (7_001, 7_001));
+        assert_eq!(with_22[3..9], [22; 6]);
     }
 
     /// Ten wagons of 50 m make 500 m set to V; engine, isolated and M metres beside them bring no percent.

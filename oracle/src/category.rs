@@ -53,7 +53,7 @@ impl Category {
         let (v, m) = (i64::from(facts.braked_v), i64::from(facts.braked_m));
         if self.is_p() {
             // Note 8: three quarters of M; note 7: k percent less.
-            (4 * v + 3 * m) * (100 - deduction(facts.hauled_length_v))
+            (4 * v + 3 * m) * (100 - facts.k)
         } else {
             4 * (v + m) * 100
         }

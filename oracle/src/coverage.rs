@@ -10,46 +10,30 @@ use crate::offered::Offered;
 use crate::order::Order;
 use crate::precedence::{applying, excluded, refusals, shown, SECTION};
 use crate::routes::Routes;
+use crate::withdrawal::Withdrawal;
 
-/// Rules that a sheet can name.
+/// Rules that a sheet can name: no other number stands on one.
 const COMMON_RULES: [u8; 9] = [15, 16, 17, 18, 19, 20, 21, 22, 23];
 const P_RULES: [u8; 8] = [30, 31, 40, 41, 42, 43, 44, 47];
 const G_RULES: [u8; 7] = [30, 31, 32, 33, 34, 35, 47];
 
-/// In categories 1 to 3, of accounts that no list has: where a train has more than 700 m set to V, 22 comes before it.
-const UNLISTED: u8 = 46;
-
-/// Whose sheets they are.
-#[derive(Clone, Copy, PartialEq, Eq)]
-enum Whose {
-    Trains,
-    Accounts,
-}
-
-impl Whose {
-    fn name(self) -> &'static str {
-        match self {
-            Whose::Trains => "trains",
-            Whose::Accounts => "accounts",
-        }
-    }
-
-    /// The rules of its own that a category can break first.
-    fn own_rules(self, category: usize) -> Vec<u8> {
-        match (category, self) {
-            (1..=3, Whose::Accounts) => [&P_RULES[..], &[UNLISTED]].concat(),
-            (1..=3, Whose::Trains) => P_RULES.to_vec(),
-            _ => G_RULES.to_vec(),
-        }
+/// The rules of its own that a category can break first.
+fn own_rules(category: usize) -> &'static [u8] {
+    match category {
+        1..=3 => &P_RULES,
+        _ => &G_RULES,
     }
 }
+
+/// How many numbers a byte of a sheet can name.
+const NUMBERS: usize = 256;
 
 /// What the sheets of one function said.
 #[derive(Clone)]
 struct Sheets {
-    whose: Whose,
-    common: [u64; 48],
-    by_category: [[u64; 48]; 5],
+    whose: &'static str,
+    common: [u64; NUMBERS],
+    by_category: [[u64; NUMBERS]; 5],
     granted: [[u64; 6]; 6],
     boundaries: Boundaries,
 }
@@ -63,6 +47,7 @@ pub struct Coverage {
     routes: [Routes; 2],
     vehicle_numbers: Numbers,
     lengths: Lengths,
+    withdrawal: Withdrawal,
 }
 
 /// What a run has to meet.
@@ -92,19 +77,20 @@ impl Default for Coverage {
     fn default() -> Coverage {
         let none = |whose| Sheets {
             whose,
-            common: [0; 48],
-            by_category: [[0; 48]; 5],
+            common: [0; NUMBERS],
+            by_category: [[0; NUMBERS]; 5],
             granted: [[0; 6]; 6],
             boundaries: Boundaries::default(),
         };
         Coverage {
             numbers: [[0; 32]; FUNCTIONS.len()],
             pairs: [[[0; 16]; 16]; FUNCTIONS.len()],
-            sheets: [none(Whose::Trains), none(Whose::Accounts)],
+            sheets: [none("trains"), none("accounts")],
             offered: Offered::default(),
             routes: [Routes::default(), Routes::default()],
             vehicle_numbers: Numbers::default(),
             lengths: Lengths::default(),
+            withdrawal: Withdrawal::default(),
         }
     }
 }
@@ -126,6 +112,9 @@ impl Coverage {
             _ => None,
         };
         self.lengths.note(call, &all, facts.as_ref());
+        if let Some(facts) = &facts {
+            self.withdrawal.note(call, facts);
+        }
         if let (Some(sheets), true) = (self.sheets_of(function), answer == 0) {
             sheets.note(buffer);
             if let (Some(facts), Some(order)) = (&facts, order(call)) {
@@ -176,6 +165,7 @@ impl Coverage {
         }
         self.vehicle_numbers.add(&other.vehicle_numbers);
         self.lengths.add(&other.lengths);
+        self.withdrawal.add(&other.withdrawal);
     }
 
     /// What could have occurred and did not.
@@ -196,6 +186,7 @@ impl Coverage {
         missing.extend(self.routes[0].missing(Function::RouteOfTrain, scope));
         missing.extend(self.vehicle_numbers.missing(scope));
         missing.extend(self.lengths.missing(scope));
+        missing.extend(self.withdrawal.missing(scope));
         if scope == Scope::Functions {
             self.sheets[1].missing(scope, &mut missing);
             missing.extend(self.offered.missing());
@@ -248,6 +239,7 @@ impl Coverage {
         }
         text += &self.vehicle_numbers.table(scope);
         text += &self.lengths.table(scope);
+        text += &self.withdrawal.table(scope);
         text + &impossible(scope)
     }
 }
@@ -302,8 +294,9 @@ fn impossible(scope: Scope) -> String {
     text +=
         "  a tie of categories 3 and 4 with another slowest section: they share speed and column\n";
     text += "  refusals that are not in a function's row: the page gives it no such refusal\n";
-    text += "  rule 46 as a train's first broken: with more than 7,000 set to V its hauled part breaks 22, or 21 before it\n";
-    text += "  rules 40 to 46 in categories 4 and 5, 32 to 35 in 1 to 3: not asked there\n";
+    text += "  a rule that is not in the list, as 46: its number is no other rule's\n";
+    text += "  another sheet of a train than under the former list: with more than 7,000 set to V it breaks 22, and 46 was asked behind that\n";
+    text += "  rules 40 to 44 in categories 4 and 5, 32 to 35 in 1 to 3: not asked there\n";
     text += "  a granted number below the asked one: not among the asked and greater ones\n";
     text
 }
@@ -324,9 +317,9 @@ fn add(counts: &mut [u64], more: &[u64]) {
 
 impl Sheets {
     fn note(&mut self, sheet: &[u8]) {
-        self.common[usize::from(sheet[3]) % 48] += 1;
+        self.common[usize::from(sheet[3])] += 1;
         for (rules, &broken) in self.by_category.iter_mut().zip(&sheet[4..9]) {
-            rules[usize::from(broken) % 48] += 1;
+            rules[usize::from(broken)] += 1;
         }
         self.granted[usize::from(sheet[0]) % 6][usize::from(sheet[1]) % 6] += 1;
     }
@@ -345,14 +338,14 @@ impl Sheets {
     }
 
     fn missing(&self, scope: Scope, missing: &mut Vec<String>) {
-        let whose = self.whose.name();
+        let whose = self.whose;
         for rule in COMMON_RULES {
             if self.common[usize::from(rule)] == 0 {
                 missing.push(format!("{whose}: common rule {rule}"));
             }
         }
         for (category, rules) in (1..).zip(&self.by_category) {
-            for rule in self.whose.own_rules(category) {
+            for &rule in own_rules(category) {
                 if rules[usize::from(rule)] == 0 {
                     missing.push(format!("{whose}: category {category} rule {rule}"));
                 }
@@ -371,12 +364,13 @@ impl Sheets {
 
     /// Rules that a sheet named and cannot name.
     fn impossible_met(&self) -> Vec<String> {
+        let whose = self.whose;
         let mut met = vec![];
+        for rule in unlisted(&self.common, &[]) {
+            met.push(format!("{whose}: common rule {rule}"));
+        }
         for (category, rules) in (1..).zip(&self.by_category) {
-            let own = self.whose.own_rules(category);
-            let named = (1..48).filter(|&rule| rules[usize::from(rule)] > 0);
-            for rule in named.filter(|rule| !COMMON_RULES.contains(rule) && !own.contains(rule)) {
-                let whose = self.whose.name();
+            for rule in unlisted(rules, own_rules(category)) {
                 met.push(format!("{whose}: category {category} rule {rule}"));
             }
         }
@@ -384,13 +378,13 @@ impl Sheets {
     }
 
     fn table(&self) -> String {
-        let whose = self.whose.name();
+        let whose = self.whose;
         let mut text = format!("first rule broken, sheets of {whose}\n  rule   common");
         for category in 1..=5 {
             let _ = write!(text, " {:>8}", format!("cat {category}"));
         }
         text.push('\n');
-        for rule in (0..1).chain(15..48) {
+        for rule in 0..NUMBERS {
             let counts = [
                 &[self.common[rule]],
                 &self.by_category.map(|one| one[rule])[..],
@@ -417,6 +411,13 @@ impl Sheets {
     }
 }
 
+/// The numbers that sheets named and that are neither common rules nor among these.
+fn unlisted(named: &[u64; NUMBERS], own: &[u8]) -> Vec<u8> {
+    let numbers = (1..=u8::MAX).filter(|&number| named[usize::from(number)] > 0);
+    let others = numbers.filter(|number| !COMMON_RULES.contains(number) && !own.contains(number));
+    others.collect()
+}
+
 /// Every pair of asked and granted numbers that can occur.
 fn grants() -> Vec<(usize, usize)> {
     let all = (1..6).flat_map(|asked| (0..6).map(move |granted| (asked, granted)));
@@ -429,37 +430,55 @@ mod tests {
     use super::*;
     use crate::gen::accounts::account_of;
     use crate::gen::cases::case_a;
-    use crate::gen::draft::bytes;
 
-    /// What is impossible about a sheet that names rule 46 for category 1.
-    fn naming_46(inputs: Inputs) -> Vec<String> {
+    /// What is impossible about a sheet that has this number in this byte.
+    fn naming(inputs: &Inputs, byte: usize, number: u8) -> Vec<String> {
         let call = Call {
-            inputs,
+            inputs: inputs.clone(),
             room: 32,
             fill: 0,
         };
         let mut buffer = call.buffer();
         buffer[..32].fill(0);
-        buffer[4] = 46;
+        buffer[byte] = number;
         let mut coverage = Coverage::default();
         coverage.note(&call, 0, &buffer);
         coverage.impossible_met()
     }
 
-    #[test]
-    fn rule_46_is_met_by_accounts_and_by_no_train() {
+    /// Case A as a train and as an account.
+    fn both() -> [(&'static str, Inputs); 2] {
         let draft = case_a();
-        let order = draft.order.write().to_vec();
-        let train = Inputs::Train {
-            vehicles: draft.vehicles(),
-            order: order.clone(),
-        };
-        assert_eq!(naming_46(train), ["trains: category 1 rule 46"]);
-        let account = Inputs::Engines {
-            engines: bytes(&draft.working),
-            hauled: account_of(&draft.hauled).to_vec(),
-            order,
-        };
-        assert!(naming_46(account).is_empty());
+        let hauled = account_of(&draft.hauled).to_vec();
+        [
+            ("trains", draft.of_train()),
+            ("accounts", draft.of_account(hauled)),
+        ]
+    }
+
+    #[test]
+    fn no_sheet_names_a_number_that_is_not_in_the_list() {
+        for (whose, inputs) in both() {
+            for number in [1, 14, 24, 29, 36, 39, 45, 46, 48, 94, 255] {
+                let own = naming(&inputs, 4, number);
+                assert_eq!(own, [format!("{whose}: category 1 rule {number}")]);
+                let common = naming(&inputs, 3, number);
+                assert_eq!(common, [format!("{whose}: common rule {number}")]);
+            }
+        }
+    }
+
+    #[test]
+    fn a_sheet_names_every_rule_of_the_list() {
+        for (_, inputs) in both() {
+            for rule in COMMON_RULES {
+                assert!(naming(&inputs, 3, rule).is_empty(), "{rule}");
+            }
+            for category in 1..=5 {
+                for &rule in own_rules(category) {
+                    assert!(naming(&inputs, 3 + category, rule).is_empty(), "{rule}");
+                }
+            }
+        }
     }
 }

@@ -19,6 +19,7 @@ use crate::numbers::{attempts, seats};
 use crate::order::ORDER;
 use crate::random::Random;
 use crate::routes::{swept, Met};
+use crate::withdrawal::is_as_before;
 
 /// Differences that are written out; the others are only counted.
 const SHOWN: usize = 5;
@@ -255,6 +256,11 @@ impl<'a, S: Side> Case<'a, S> {
             ));
         }
         self.check_writing(call, library, &found);
+        if !is_as_before(call, model, &expected) {
+            let name = call.function().name();
+            let text = format!("  {name}: not as under the former list\n");
+            self.wrong.push(text + &call.describe());
+        }
         (model, expected)
     }
 
@@ -324,17 +330,8 @@ impl<'a, S: Side> Case<'a, S> {
 
     /// The account gives the sheet of the whole train.
     fn both_sheets(&mut self, cut: &Cut, hauled: Vec<u8>) {
-        let order = cut.draft.order.write().to_vec();
-        let of_train = Inputs::Train {
-            vehicles: cut.draft.vehicles(),
-            order: order.clone(),
-        };
-        let of_account = Inputs::Engines {
-            engines: bytes(&cut.draft.working),
-            hauled,
-            order,
-        };
-        self.both(of_train, of_account, 40);
+        let draft = &cut.draft;
+        self.both(draft.of_train(), draft.of_account(hauled), 40);
     }
 
     /// And its route.
@@ -401,12 +398,15 @@ pub(crate) fn shown(answer: u64) -> String {
 #[cfg(test)]
 mod tests {
     use super::*;
+    use crate::answer::route_answer;
     use crate::call::{Function, FUNCTIONS};
-    use crate::category::{begun_20_m, Category, CATEGORIES};
+    use crate::category::{Category, CATEGORIES};
     use crate::facts::Facts;
+    use crate::former_list::{former_route, former_sheet};
     use crate::gen::damage::Span;
     use crate::gen::numbers::{LEAST, PAST};
     use crate::lengths::{done, shown_by_function, Reading};
+    use crate::order::Order;
     use crate::page::tests::page_rows;
     use crate::page::RecordOf;
     use crate::precedence::refusals;
@@ -441,7 +441,10 @@ mod tests {
         NumberTakesZero,
         Length(Function, Reading),
         LengthNotJoined,
-        DeductionNotHeld,
+        /// 46 still asked by this function, under this number.
+        StillAsked(Function, u8),
+        /// 47 under the number that is free.
+        TakesTheNumber,
         /// A field's range as it is, and as this function reads it.
         Range(Function, RecordOf, [Span; 2]),
     }
@@ -526,37 +529,39 @@ mod tests {
             numbered
         }
 
-        /// A done call as one with this slip reads the length that k counts.
+        /// A done call as one with this slip reads k, or lists the rules.
         fn misread(self, answer: u64, inputs: Inputs, room: &mut [u8]) -> u64 {
             let call = Call {
                 inputs,
                 room: 0,
                 fill: 0,
             };
-            let Slip::Length(function, reading) = self else {
-                return answer;
-            };
-            if function != call.function() || !function.is_done(answer) {
+            let (function, inputs) = (call.function(), &call.inputs);
+            if !function.is_done(answer) {
                 return answer;
             }
-            let facts = call.inputs.facts().expect("a done call has facts");
-            let Some(facts) = reading.misread(&call.inputs, &facts) else {
+            let facts = || inputs.facts().expect("a done call has facts");
+            let given = match self {
+                Slip::Length(one, reading) if one == function => {
+                    let facts = reading.misread(inputs, &facts());
+                    facts.and_then(|facts| done(inputs, &facts))
+                }
+                Slip::StillAsked(one, number) if one == function => {
+                    still_asked(inputs, &facts(), number)
+                }
+                Slip::TakesTheNumber => {
+                    if let Inputs::Train { .. } | Inputs::Engines { .. } = inputs {
+                        renumber(&mut room[4..9], 47, 46);
+                    }
+                    None
+                }
+                _ => None,
+            };
+            let Some((answer, bytes)) = given else {
                 return answer;
             };
-            let (answer, bytes) = done(&call.inputs, &facts).expect("a done call has its orders");
             room[..bytes.len()].copy_from_slice(&bytes);
             answer
-        }
-
-        /// The braked mass of a sheet with k not held at 10.
-        fn not_held(inputs: &Inputs, sheet: &mut [u8]) {
-            let facts = inputs.facts().expect("a done call has facts");
-            let begun = begun_20_m(facts.hauled_length_v);
-            if sheet[0] <= 3 && begun > 10 {
-                let sum = 4 * i64::from(facts.braked_v) + 3 * i64::from(facts.braked_m);
-                let braked = sum * (100 - begun) / 400;
-                sheet[24..28].copy_from_slice(&(braked as u32).to_le_bytes());
-            }
         }
 
         /// A done route as one with this slip chooses its category.
@@ -648,9 +653,6 @@ mod tests {
                 hauled,
                 order,
             };
-            if *self == Slip::DeductionNotHeld && answer == 0 {
-                Slip::not_held(&inputs, room);
-            }
             self.misread(answer, inputs, room)
         }
 
@@ -704,6 +706,28 @@ mod tests {
                 orders,
             };
             self.misread(answer, inputs, room)
+        }
+    }
+
+    /// What engines with an account are given where 46 is still asked, under this number.
+    fn still_asked(inputs: &Inputs, facts: &Facts, number: u8) -> Option<(u64, Vec<u8>)> {
+        match inputs {
+            Inputs::Engines { order, .. } => {
+                let mut sheet = former_sheet(facts, &Order::read(order)?);
+                renumber(&mut sheet[4..9], 46, number);
+                Some((0, sheet.to_vec()))
+            }
+            Inputs::AccountRoute { orders, .. } => {
+                let route = former_route(facts, &sections(orders).ok()?);
+                Some((route_answer(Ok(route.category)), route.speeds))
+            }
+            _ => None,
+        }
+    }
+
+    fn renumber(rules: &mut [u8], from: u8, to: u8) {
+        for rule in rules.iter_mut().filter(|rule| **rule == from) {
+            *rule = to;
         }
     }
 
@@ -777,7 +801,20 @@ mod tests {
             assert!(found, "{} {reading:?}", function.name());
         }
         assert!(differences(Slip::LengthNotJoined) > 0);
-        assert!(differences(Slip::DeductionNotHeld) > 0);
+    }
+
+    /// 46 still asked, under its number and under others, and 47 with its number.
+    #[test]
+    fn slips_of_the_withdrawal_are_found() {
+        let found = |slip: Slip, cases: [u64; 4]| differences_in(slip, cases) > 0;
+        for number in [45, 46, 48] {
+            let slip = Slip::StillAsked(Function::SheetOfAccount, number);
+            assert!(found(slip, [0, 3_000, 0, 0]), "{number}");
+        }
+        let route = Slip::StillAsked(Function::RouteOfAccount, 46);
+        assert!(found(route, [0, 0, 3_000, 0]));
+        assert!(found(Slip::TakesTheNumber, [300, 0, 0, 0]));
+        assert!(found(Slip::TakesTheNumber, [0, 3_000, 0, 0]));
     }
 
     /// One end of a field moved by one in each function that reads it; the vehicle number has slips of its own.

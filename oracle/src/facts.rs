@@ -1,6 +1,7 @@
 //! What rules and sheet ask of a train, found over its records or over engines and an account.
 
 use crate::account::{breaks_rule_18, Account};
+use crate::category::deduction;
 use crate::vehicle::{
     Record, Vehicle, HAULED_ENGINE, ISOLATED, SET_TO_M, SET_TO_R, SET_TO_V, WAGON,
 };
@@ -10,8 +11,10 @@ pub struct Facts {
     pub hauled_mass: u32,
     pub train_mass: u32,
     pub hauled_length: u32,
-    /// Of hauled records set to V: k and rule 46 read it.
+    /// Of hauled records set to V: k counts it.
     pub hauled_length_v: u32,
+    /// The percent that are deducted in categories 1 to 3.
+    pub k: i64,
     pub train_length: u32,
     pub axles: u32,
     pub axles_v: u32,
@@ -40,6 +43,7 @@ impl Facts {
         train_mass: 0,
         hauled_length: 0,
         hauled_length_v: 0,
+        k: 0,
         train_length: 0,
         axles: 0,
         axles_v: 0,
@@ -90,6 +94,7 @@ impl Facts {
             facts.v_in_first_five |= vehicle.setting == SET_TO_V && place < 5;
             facts.m_after_fifth |= vehicle.setting == SET_TO_M && place >= 5;
         }
+        facts.k = deduction(facts.hauled_length_v);
         facts
     }
 
@@ -102,6 +107,7 @@ impl Facts {
             train_mass: engines.train_mass + hauled.mass,
             hauled_length: hauled.length,
             hauled_length_v: hauled.length_v,
+            k: deduction(hauled.length_v),
             train_length: engines.train_length + hauled.length,
             axles: engines.axles + hauled.axles,
             axles_v: engines.axles_v + hauled.axles_v,

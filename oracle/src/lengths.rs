@@ -1,13 +1,13 @@
-//! What the length that k counts has met: each begun 20 m, and calls on which a wrong reading of that length would show.
+//! What the length that k counts has met: each begun 20 m, and calls on which a wrong reading of k would show.
 
 use std::collections::BTreeMap;
 use std::fmt::Write;
 
-use self::Reading::{HeldAt700, WagonsAlone, Whole, WithIsolated, WithM, WithR, WithWorking};
+use self::Reading::{NotHeld, WagonsAlone, Whole, WithIsolated, WithM, WithR, WithWorking};
 use crate::account::Account;
 use crate::answer::route_answer;
 use crate::call::{Call, Function, Inputs, FUNCTIONS};
-use crate::category::deduction;
+use crate::category::{begun_20_m, deduction};
 use crate::coverage::Scope;
 use crate::facts::Facts;
 use crate::gen::lengths::BOUNDS;
@@ -19,7 +19,7 @@ use crate::vehicle::{
     Record, Vehicle, ISOLATED, SET_TO_M, SET_TO_R, SET_TO_V, WAGON, WORKING_ENGINE,
 };
 
-/// A wrong reading of the length that k and rule 46 count.
+/// A wrong reading of k, most of them of the length that it counts.
 #[derive(Clone, Copy, Debug, PartialEq, Eq, PartialOrd, Ord)]
 pub enum Reading {
     /// The whole hauled length.
@@ -32,16 +32,18 @@ pub enum Reading {
     WithWorking,
     /// Hauled engines set to V left out.
     WagonsAlone,
-    /// Never above 700 m, as where 46 is asked of the whole hauled length, which rule 22 holds there.
-    HeldAt700,
+    /// The right length, and all the begun 20 m: k is not held at 10.
+    NotHeld,
 }
 
 /// Those that the account of a portion can show.
 const OF_PORTIONS: [Reading; 5] = [Whole, WithM, WithIsolated, WithR, WagonsAlone];
-/// Those that what a train is granted can show: with a vehicle set to R it is granted nothing.
+/// Those that what a train is granted can show.
 const OF_TRAINS: [Reading; 5] = [Whole, WithM, WithIsolated, WithWorking, WagonsAlone];
 /// Those that engines with an account can show.
-const OF_ACCOUNTS: [Reading; 3] = [Whole, WithWorking, HeldAt700];
+const OF_ACCOUNTS: [Reading; 3] = [Whole, WithWorking, NotHeld];
+/// Those that a sheet of a train can show, and nothing that it is granted: rule 16 or 22 is broken.
+const OF_SHEETS: [Reading; 2] = [WithR, NotHeld];
 
 impl Reading {
     fn counts(self, vehicle: &Vehicle) -> bool {
@@ -54,7 +56,7 @@ impl Reading {
             WithR => set_to(SET_TO_V) || set_to(SET_TO_R),
             WithWorking => vehicle.setting == SET_TO_V,
             WagonsAlone => set_to(SET_TO_V) && vehicle.kind == WAGON,
-            HeldAt700 => set_to(SET_TO_V),
+            NotHeld => set_to(SET_TO_V),
         }
     }
 
@@ -62,8 +64,7 @@ impl Reading {
     pub fn of_records(self, records: &[Record]) -> u32 {
         let vehicles = records.iter().map(Vehicle::read);
         let counted = vehicles.filter(|vehicle| self.counts(vehicle));
-        let sum = counted.map(|vehicle| u32::from(vehicle.length)).sum();
-        self.held(sum)
+        counted.map(|vehicle| u32::from(vehicle.length)).sum()
     }
 
     /// The length beside engines, as far as an account's figures give it.
@@ -71,19 +72,20 @@ impl Reading {
         match self {
             Whole => Some(hauled.length),
             WithWorking => Some(hauled.length_v + self.of_records(engines)),
-            HeldAt700 => Some(self.held(hauled.length_v)),
+            NotHeld => Some(hauled.length_v),
             _ => None,
         }
     }
 
-    fn held(self, length: u32) -> u32 {
+    fn k(self, length: u32) -> i64 {
         match self {
-            HeldAt700 => length.min(7_000),
-            _ => length,
+            // There is no more than all to deduct.
+            NotHeld => begun_20_m(length).min(100),
+            _ => deduction(length),
         }
     }
 
-    /// The facts of a call with the length as it is read so.
+    /// The facts of a call with k as it is read so.
     pub fn misread(self, inputs: &Inputs, facts: &Facts) -> Option<Facts> {
         let hauled_length_v = match inputs {
             Inputs::Train { vehicles, .. } | Inputs::TrainRoute { vehicles, .. } => {
@@ -99,6 +101,7 @@ impl Reading {
         };
         Some(Facts {
             hauled_length_v,
+            k: self.k(hauled_length_v),
             ..*facts
         })
     }
@@ -111,7 +114,7 @@ impl Reading {
             WithR => "R counted in",
             WithWorking => "working engines set to V counted in",
             WagonsAlone => "hauled engines left out",
-            HeldAt700 => "46 over the whole hauled length",
+            NotHeld => "not held at 10",
         }
     }
 }
@@ -140,8 +143,10 @@ enum Met {
     Shows(Reading),
     /// It would grant another category.
     Grants(Reading),
-    /// 46 stands first against this category, which is asked, and k not held at 10 would brake less.
+    /// No list has the account, this category is asked, and k not held at 10 would brake less.
     Held(u8),
+    /// This category breaks no rule, and with k not held at 10 it would break 47.
+    Breaks47(u8),
     Other(&'static str),
 }
 
@@ -157,7 +162,7 @@ const CEILING: u32 = 200_000;
 fn demanded(function: Function) -> Vec<Met> {
     match function {
         Function::SheetOfTrain => {
-            let shows = OF_TRAINS.into_iter().chain([WithR]).map(Met::Shows);
+            let shows = OF_TRAINS.into_iter().chain(OF_SHEETS).map(Met::Shows);
             let grants = OF_TRAINS.map(Met::Grants);
             // Above 680 m the whole length has the same k, 10.
             let apart = bounds(Met::Apart).filter(|met| !matches!(met, Met::Apart(7_000, _)));
@@ -170,7 +175,8 @@ fn demanded(function: Function) -> Vec<Met> {
             let readings = OF_ACCOUNTS.into_iter();
             let readings = readings.flat_map(|one| [Met::Shows(one), Met::Grants(one)]);
             let others = [ABOVE_LENGTH, WITHOUT_AXLES].map(Met::Other);
-            let held = (1..=3).map(Met::Held).chain(others);
+            let held = (1..=3).flat_map(|one| [Met::Held(one), Met::Breaks47(one)]);
+            let held = held.chain(others);
             both.chain(readings).chain(held).collect()
         }
         Function::AccountOf => OF_PORTIONS.map(Met::Shows).to_vec(),
@@ -206,7 +212,8 @@ impl Met {
             Met::Apart(..) => "the same, the whole hauled length has another k".to_owned(),
             Met::Shows(reading) => format!("would show: {}", reading.name()),
             Met::Grants(reading) => format!("would grant another: {}", reading.name()),
-            Met::Held(_) => "46 first in the asked category, k held at 10".to_owned(),
+            Met::Held(_) => "no list's V length, k held at 10, by the asked one".to_owned(),
+            Met::Breaks47(_) => "no rule, but 47 with k not held at 10, by category".to_owned(),
             Met::Other(name) => name.to_owned(),
         }
     }
@@ -271,7 +278,7 @@ impl Lengths {
             return;
         };
         let is_sheet = matches!(inputs, Inputs::Train { .. } | Inputs::Engines { .. });
-        for reading in OF_TRAINS.into_iter().chain([WithR, HeldAt700]) {
+        for reading in OF_TRAINS.into_iter().chain(OF_SHEETS) {
             let wrong = reading.misread(inputs, facts);
             let Some(wrong) = wrong.and_then(|wrong| done(inputs, &wrong)) else {
                 continue;
@@ -283,10 +290,12 @@ impl Lengths {
             if is_sheet && wrong.1[1] != right.1[1] {
                 self.met(function, Met::Grants(reading));
             }
+            if is_sheet && reading == NotHeld {
+                self.note_held(function, facts, &wrong.1, &right.1);
+            }
         }
         if is_sheet && matches!(right.1[0], 1..=3) {
             self.note_bounds(function, facts);
-            self.note_held(function, facts, &right.1);
         }
         if let Inputs::Engines { hauled, .. } = inputs {
             self.note_unlisted(function, hauled);
@@ -307,11 +316,16 @@ impl Lengths {
         }
     }
 
-    fn note_held(&mut self, function: Function, facts: &Facts, sheet: &[u8]) {
-        let asked = sheet[0];
-        let first = sheet[3 + usize::from(asked)];
-        if first == 46 && facts.braked_v + facts.braked_m > 0 {
-            self.met(function, Met::Held(asked));
+    /// Of the sheet with k not held at 10 and the right one.
+    fn note_held(&mut self, function: Function, facts: &Facts, wrong: &[u8], right: &[u8]) {
+        let braked = |sheet: &[u8]| sheet[24..28].to_vec();
+        if facts.hauled_length_v > facts.hauled_length && braked(wrong) != braked(right) {
+            self.met(function, Met::Held(right[0]));
+        }
+        for (category, rules) in (1..).zip(wrong[4..9].iter().zip(&right[4..9])) {
+            if rules == (&47, &0) {
+                self.met(function, Met::Breaks47(category));
+            }
         }
     }
 
@@ -412,7 +426,7 @@ mod tests {
             (WithR, 250),
             (WithWorking, 91),
             (WagonsAlone, 80),
-            (HeldAt700, 90),
+            (NotHeld, 90),
         ];
         for (reading, length) in lengths {
             assert_eq!(reading.of_records(&records), length, "{reading:?}");
@@ -420,9 +434,25 @@ mod tests {
     }
 
     #[test]
+    fn k_not_held_goes_on_to_all() {
+        let lengths = [
+            (6_801, 10),
+            (7_000, 10),
+            (7_001, 11),
+            (7_201, 12),
+            (25_000, 100),
+            (25_001, 100),
+        ];
+        for (length, k) in lengths {
+            assert_eq!(NotHeld.k(length), k, "{length}");
+            assert_eq!(Whole.k(length), 10, "{length}");
+        }
+    }
+
+    #[test]
     fn what_is_not_met_is_missing() {
         let missing = Lengths::default().missing(Scope::Functions);
-        let sheets = (33 + 29 + 6 + 5) + (33 + 33 + 2 * 3 + 3 + 2);
+        let sheets = (33 + 29 + 7 + 5) + (33 + 33 + 2 * 3 + 3 + 3 + 2);
         assert_eq!(missing.len(), sheets + 5 + 3 + 5 + 3);
     }
 }

@@ -53,8 +53,18 @@ pub fn speeds(category: &Category, facts: &Facts, sections: &[Order]) -> Option<
 
 /// The greatest of the slowest-section speeds, the lowest number at a tie, among the asked and greater ones.
 pub fn granted(facts: &Facts, sections: &[Order]) -> Route {
+    granted_among(facts, sections, |_| true)
+}
+
+/// The same where some categories are left out.
+pub fn granted_among(
+    facts: &Facts,
+    sections: &[Order],
+    stays: impl Fn(&Category) -> bool,
+) -> Route {
     let asked = sections.first().map_or(0, |section| section.asked);
-    let may_be = CATEGORIES.iter().filter(|one| one.number >= asked);
+    let may_be = CATEGORIES.iter();
+    let may_be = may_be.filter(|one| one.number >= asked && stays(one));
     let standing = may_be.filter_map(|category| {
         let speeds = speeds(category, facts, sections)?;
         Some((category.number, speeds))

@@ -1,8 +1,11 @@
 //! The rules: the common ones first, then those of each category in rising number.
 
-use crate::category::{begun_20_m, Category};
+use crate::category::Category;
 use crate::facts::Facts;
 use crate::order::Order;
+
+/// A list of the rules that a category has of its own, by the first that it breaks, or 0.
+pub type List = fn(&Category, &Facts, &Order) -> u8;
 
 /// The first common rule broken, or 0.
 pub fn common_rule(facts: &Facts) -> u8 {
@@ -45,7 +48,6 @@ fn p_rule(facts: &Facts) -> u8 {
         (42, mass > 8_000 && facts.worker_not_in_m),
         (43, mass > 12_000 && facts.v_in_first_five),
         (44, mass > 12_000 && facts.m_after_fifth),
-        (46, begun_20_m(facts.hauled_length_v) > 10),
     ])
 }
 

@@ -3,11 +3,16 @@
 use crate::category::{Category, CATEGORIES};
 use crate::facts::Facts;
 use crate::order::Order;
-use crate::rules::{category_rule, common_rule};
+use crate::rules::{category_rule, common_rule, List};
 
 pub const SHEET: usize = 32;
 
 pub fn sheet(facts: &Facts, order: &Order) -> [u8; SHEET] {
+    sheet_under(category_rule, facts, order)
+}
+
+/// The sheet where the categories have this list.
+pub fn sheet_under(list: List, facts: &Facts, order: &Order) -> [u8; SHEET] {
     let asked = &CATEGORIES[usize::from(order.asked) - 1];
     let common = common_rule(facts);
     let mut sheet = [0; SHEET];
@@ -15,7 +20,7 @@ pub fn sheet(facts: &Facts, order: &Order) -> [u8; SHEET] {
     sheet[3] = common;
     for (broken, category) in sheet[4..9].iter_mut().zip(&CATEGORIES) {
         *broken = match common {
-            0 => category_rule(category, facts, order),
+            0 => list(category, facts, order),
             rule => rule,
         };
     }

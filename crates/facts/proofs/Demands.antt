@@ -37,6 +37,10 @@ rule-44 = readings.rule-44
 pub v-length-within : (train : List Vehicle) → factsOf train .hauledVLength ≤ factsOf train .hauledLength
 v-length-within = trains.v-length-within
 
+-- and beside any engines that of an account that comes from a list
+pub v-length-beside : (engines hauled : List Vehicle) → factsBeside engines (accountOf hauled) .hauledVLength ≤ factsBeside engines (accountOf hauled) .hauledLength
+v-length-beside = trains.v-length-beside
+
 -- ---- working engines in front of hauled vehicles
 module _ (working hauled : List Vehicle) (w : Every Working working) (first : firstIs isWorking hauled ≡ false) where
   pub working-is : workingOf (working ++ hauled) ≡ working

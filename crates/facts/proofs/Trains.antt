@@ -153,3 +153,7 @@ held-is f b =
 pub v-length-within : (train : List Vehicle) → factsOf train .hauledVLength ≤ factsOf train .hauledLength
 unfolding factsOf accountOf
 v-length-within train = v-length-most (hauledOf train)
+
+pub v-length-beside : (engines hauled : List Vehicle) → factsBeside engines (accountOf hauled) .hauledVLength ≤ factsBeside engines (accountOf hauled) .hauledLength
+unfolding besideOf
+v-length-beside engines hauled = v-length-most hauled

@@ -1,3 +1,4 @@
 pub mod Readings
 pub mod Engines
 pub mod Facts
+pub mod Named

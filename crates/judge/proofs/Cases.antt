@@ -9,8 +9,8 @@ use Rattle.record.specs.Vehicles.{good, vehicle}
 use Rattle.margin.specs.Margin.{fourfold, marginOf}
 use Rattle.order.specs.Orders.{goodOrder, orderOf}
 use Rattle.facts.specs.Facts.{factsOf}
-use Rattle.rules.specs.Categories.{lineSpeed, speedOf}
-use Rattle.rules.specs.Brakes.{marginFor, brakedOf}
+use Rattle.categories.specs.Categories.{lineSpeed, speedOf}
+use Rattle.categories.specs.Brakes.{marginFor, brakedOf}
 use Rattle.rules.specs.Rules.{termsOf}
 use Rattle.rules.specs.Books.{brokenBy}
 use Rattle.rules.specs.CrossBorder.{crossBorder}

@@ -8,6 +8,7 @@ use lib.ListN.{length, drop}
 use Rattle.lists.specs.Words.{all, leading, Every, Case, firstOf, caseAt, First}
 use Rattle.record.specs.Records.{recordsOf}
 use Rattle.record.specs.Vehicles.{good, vehicles, isWorking}
+use Rattle.record.specs.declared.vehicle.Vehicle.{Vehicle}
 use Rattle.lists.proofs.Cases.{first-applies, none-applies, first-or-none}
 use Rattle.account.specs.Accounts.{accountOf}
 use Rattle.account.specs.Portions.{accounted}
@@ -19,8 +20,12 @@ use Rattle.account.proofs.Demands.{any-grouping-of-bytes, any-grouping-done, po
 use Rattle.order.specs.Orders.{orderOf}
 use Rattle.order.specs.declared.Order.{Order}
 use Rattle.facts.specs.Engines.{GoodEngines}
-use Rattle.facts.specs.Facts.{factsOf, factsBeside, Bounded}
+use Rattle.facts.specs.Facts.{factsOf, besideOf, factsBeside, Bounded}
 use Rattle.facts.specs.declared.Facts.{Facts}
+use Rattle.rules.specs.Withdrawn.{formerBook, longer}
+use Rattle.rules.proofs.Demands.{train-not-longer, account-not-longer}
+use Rattle.sheets.specs.Sheets.{sheetOf}
+use Rattle.sheets.proofs.Demands.{sheet-kept}
 use Rattle.judge.specs.Answers.{numberOf, placeOf, isDone, orderRefusals, recordRefusals, trainShape, trainAround, trainRefusals, trainAnswer, trainSheet, engineRefusals, engineShape, accountAround, accountRefusals, accountAnswer, accountSheet, sheetFor, written}
 use Rattle.judge.specs.Judging.{Refusing, lentAs, trainJudged, accountJudged, judgedBy}
 use Rattle.judge.specs.Shown.{Shows}
@@ -186,3 +191,24 @@ module _ (engines : List ℕ) (g : Grouping ℕ) (order sheet : List ℕ) (e : G
     where
       portion-done : GoodPortion (uncut g) → accounted (uncut g) .answer ≡ Accepted
       portion-done good = ap (λ (r : Accounted). r .answer) (portion-done-exactly (uncut g) .1 good)
+
+-- ---- rule 46, withdrawn by request Five: no byte of a train's sheet is another than by the former list
+pub train-sheet-kept : (bs order sheet : List ℕ)
+    → written (trainAnswer bs order (length sheet)) (sheetOf formerBook (factsOf (vehicles bs)) (orderOf order)) sheet ≡ trainSheet bs order sheet
+unfolding sheetFor
+train-sheet-kept bs order sheet =
+    ap (λ (bytes : List ℕ). written (trainAnswer bs order (length sheet)) bytes sheet) (sheet-kept (factsOf (vehicles bs)) (train-not-longer (vehicles bs)) (orderOf order))
+
+-- nor of the sheet of engines with any account, save one with more than 700 m set to V in a length of at most 700 m
+pub account-sheet-kept : (bs : List ℕ) (hauled : Account) (order sheet : List ℕ) → longer (hauled .vlength) (hauled .length) ≡ false
+    → written (accountAnswer bs hauled order (length sheet)) (sheetOf formerBook (factsBeside (vehicles bs) hauled) (orderOf order)) sheet ≡ accountSheet bs hauled order sheet
+unfolding sheetFor besideOf
+account-sheet-kept bs hauled order sheet elsewhere =
+    ap (λ (bytes : List ℕ). written (accountAnswer bs hauled order (length sheet)) bytes sheet) (sheet-kept (factsBeside (vehicles bs) hauled) elsewhere (orderOf order))
+
+-- so of none with an account that comes from a list
+pub listed-sheet-kept : (bs : List ℕ) (hauled : List Vehicle) (order sheet : List ℕ)
+    → written (accountAnswer bs (accountOf hauled) order (length sheet)) (sheetOf formerBook (factsBeside (vehicles bs) (accountOf hauled)) (orderOf order)) sheet
+    ≡ accountSheet bs (accountOf hauled) order sheet
+unfolding besideOf
+listed-sheet-kept bs hauled order sheet = account-sheet-kept bs (accountOf hauled) order sheet (account-not-longer (vehicles bs) hauled)

@@ -125,7 +125,7 @@ accountRefusals bs hauled order room = accountAround bs hauled (orderRefusals or
 abbrev pub written : Answer → List ℕ → List ℕ → List ℕ
 written answer bytes lent = cond (isDone answer) (bytes ++ drop (length bytes) lent) lent
 
--- the sheet of a train's facts, by the one book there is
+-- the sheet of a train's facts, by the cross-border book
 unfoldable pub sheetFor : Facts → Order → List ℕ
 sheetFor f o = sheetOf crossBorder f o
 

@@ -8,8 +8,8 @@ use lib.Signed.{ltZ}
 use Rattle.margin.specs.Margin.{tonnesOf, signedOf}
 use Rattle.order.specs.declared.Order.{Order}
 use Rattle.facts.specs.declared.Facts.{Facts}
-use Rattle.rules.specs.Brakes.{marginFor, isShort}
-use Rattle.rules.specs.Rules.{firstBroken}
+use Rattle.categories.specs.Brakes.{marginFor}
+use Rattle.rules.specs.Rules.{firstBroken, isShort}
 use Rattle.rules.specs.Books.{rulesOf}
 use Rattle.rules.specs.CrossBorder.{crossBorder}
 use Rattle.rules.specs.Grants.{grantedOf}

@@ -9,6 +9,7 @@ use lib.ListN.{length, take, drop, getD, replicate}
 use Rattle.lists.specs.Words.{all, leading, Every, Case, caseAt}
 use Rattle.record.specs.Records.{recordCount, recordsOf}
 use Rattle.record.specs.Vehicles.{good, vehicles, isWorking}
+use Rattle.record.specs.declared.vehicle.Vehicle.{Vehicle}
 use Rattle.account.specs.Accounts.{accountOf}
 use Rattle.account.specs.Portions.{accounted}
 use Rattle.account.specs.Groupings.{Grouping, uncut, joinedBytes, BetweenRecords, GoodPortion, NoneRefused}
@@ -17,11 +18,13 @@ use Rattle.account.specs.declared.Accounted.{Accounted}
 use Rattle.account.specs.declared.Answer.the-variants.{Done as Accepted}
 use Rattle.account.proofs.Demands.{any-grouping-done, portion-done-exactly}
 use Rattle.facts.specs.Engines.{GoodEngines}
-use Rattle.facts.specs.Facts.{factsOf, factsBeside}
+use Rattle.facts.specs.Facts.{factsOf, besideOf, factsBeside}
 use Rattle.facts.specs.declared.Facts.{Facts}
 use Rattle.order.specs.declared.Order.{Order}
 use Rattle.rules.specs.CrossBorder.{crossBorder}
 use Rattle.rules.specs.Grants.{grantedOf}
+use Rattle.rules.specs.Withdrawn.{longer}
+use Rattle.rules.proofs.Demands.{train-not-longer, account-not-longer}
 use Rattle.sections.specs.Sections.{sectionsOf, askedIn, goodSection, leadingGood}
 use Rattle.sections.proofs.Demands.{sections-count, first-bad-section}
 use Rattle.sheets.specs.Sheets.{sheetLength}
@@ -32,8 +35,10 @@ use Rattle.judge.specs.declared.Answer.the-variants.{Done, BadOrder}
 use Rattle.judge.proofs.Demands as judge
 use Rattle.route.specs.Answers.{sectionRefusals, trainRefusals, accountRefusals, grantedFor, speedsFor, routeBy, trainAnswer, trainRoute, trainSpeeds, accountAnswer, accountRoute, accountSpeeds}
 use Rattle.route.specs.Shown.{Shows}
+use Rattle.route.specs.Withdrawn.{formerlyGranted, formerSpeeds}
 use Rattle.route.proofs.Routes.{sections-refusing, some-bad, sections-good, sections-room, speeds-long}
 use Rattle.route.proofs.Shown.{shows-done}
+use Rattle.route.proofs.Withdrawn.{kept}
 use Rattle.route.proofs.Single.{single-granted, single-speeds, single-answer, section-alone, section-order}
 
 -- ---- demand 1: every input is answered
@@ -208,3 +213,25 @@ module _ (engines : List ℕ) (g : Grouping ℕ) (orders speeds : List ℕ) (e :
       let d = any-grouping-done g cut good in
       let s = route-from-account (ap (λ (r : Accounted). r .answer) (portion-done-exactly (uncut g) .1 good)) in
       (d .0, ap (λ (r : Accounted). r .account) (d .1), s .0, s .1)
+
+-- ---- rule 46, withdrawn by request Five: no train's route is another than by the former list
+pub train-route-kept : (bs orders speeds : List ℕ)
+    → (routeBy (trainAnswer bs orders (length speeds)) (formerlyGranted (factsOf (vehicles bs)) orders) ≡ trainRoute bs orders (length speeds))
+    × (written (trainAnswer bs orders (length speeds)) (formerSpeeds (factsOf (vehicles bs)) orders) speeds ≡ trainSpeeds bs orders speeds)
+train-route-kept bs orders speeds = kept (factsOf (vehicles bs)) (train-not-longer (vehicles bs)) orders (trainAnswer bs orders (length speeds)) speeds
+
+-- nor that of engines with any account, save one with more than 700 m set to V in a length of at most 700 m
+pub account-route-kept : (bs : List ℕ) (hauled : Account) (orders speeds : List ℕ) → longer (hauled .vlength) (hauled .length) ≡ false
+    → (routeBy (accountAnswer bs hauled orders (length speeds)) (formerlyGranted (factsBeside (vehicles bs) hauled) orders) ≡ accountRoute bs hauled orders (length speeds))
+    × (written (accountAnswer bs hauled orders (length speeds)) (formerSpeeds (factsBeside (vehicles bs) hauled) orders) speeds ≡ accountSpeeds bs hauled orders speeds)
+unfolding besideOf
+account-route-kept bs hauled orders speeds elsewhere = kept (factsBeside (vehicles bs) hauled) elsewhere orders (accountAnswer bs hauled orders (length speeds)) speeds
+
+-- so of none with an account that comes from a list
+pub listed-route-kept : (bs : List ℕ) (hauled : List Vehicle) (orders speeds : List ℕ)
+    → (routeBy (accountAnswer bs (accountOf hauled) orders (length speeds)) (formerlyGranted (factsBeside (vehicles bs) (accountOf hauled)) orders)
+    ≡ accountRoute bs (accountOf hauled) orders (length speeds))
+    × (written (accountAnswer bs (accountOf hauled) orders (length speeds)) (formerSpeeds (factsBeside (vehicles bs) (accountOf hauled)) orders) speeds
+    ≡ accountSpeeds bs (accountOf hauled) orders speeds)
+unfolding besideOf
+listed-route-kept bs hauled orders speeds = account-route-kept bs (accountOf hauled) orders speeds (account-not-longer (vehicles bs) hauled)

@@ -12,10 +12,10 @@ use Rattle.record.specs.Records.{recordCount, recordsOf}
 use Rattle.facts.specs.declared.Facts.{Facts}
 use Rattle.order.specs.Orders.{noOrder}
 use Rattle.order.specs.declared.Order.{Order}
-use Rattle.rules.specs.Categories.{categoryOf}
+use Rattle.categories.specs.Categories.{categoryOf}
+use Rattle.categories.specs.declared.category.Category.{Category}
 use Rattle.rules.specs.CrossBorder.{crossBorder}
 use Rattle.rules.specs.Grants.{Among}
-use Rattle.rules.specs.declared.category.Category.{Category}
 use Rattle.rules.proofs.Demands.{cross-border-sound}
 use Rattle.sections.specs.Routes.{slowestOf, grantedOn, sectionSpeed, MayBeGrantedOn, OfferedOn}
 use Rattle.sections.specs.Sections.{sectionsOf, askedIn, goodSection}

@@ -7,10 +7,10 @@ use Rattle.lists.specs.Words.{Every}
 use Rattle.facts.specs.declared.Facts.{Facts}
 use Rattle.order.specs.Orders.{noOrder}
 use Rattle.order.specs.declared.Order.{Order}
-use Rattle.rules.specs.Categories.{speedOf, categoryOf}
+use Rattle.categories.specs.Categories.{speedOf, categoryOf}
+use Rattle.categories.specs.declared.category.Category.{Category}
 use Rattle.rules.specs.CrossBorder.{crossBorder}
 use Rattle.rules.specs.Grants.{Among, grantedOf}
-use Rattle.rules.specs.declared.category.Category.{Category}
 use Rattle.sections.specs.Routes.{askedOn, slowestOf, MayBeGrantedOn, BreaksOn, OfferedOn}
 
 pub record Shows (f : Facts) (os : List Order) (granted : ℕ) (before speeds : List ℕ) : Type 0 where

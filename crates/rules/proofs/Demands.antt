@@ -4,43 +4,43 @@ use native.Mathlib.Omega.{arith}
 use mathlib.Core.Path.{_≡_, refl}
 use mathlib.Core.Bool.{true, false, not, _&&_, cond}
 use mathlib.Core.List.{List, [], _∷_, _++_, map}
+use mathlib.Core.Logic.{_⊎_}
 use lib.IntN.{pos}
-use lib.Signed.{ltZ, _≤ℤ_}
+use lib.ListN.{replicate}
+use lib.Signed.{ltZ}
 use Rattle.lists.specs.Words.{_above_, _atMost_, Every, caseAt, First}
 use Rattle.lists.proofs.Cases.{first-applies, none-applies}
+use Rattle.margin.specs.Margin.{fourfold, marginOf}
 use Rattle.record.specs.declared.vehicle.Vehicle.{Vehicle}
-use Rattle.facts.specs.Facts.{factsOf}
+use Rattle.account.specs.Accounts.{accountOf}
+use Rattle.facts.specs.Facts.{factsOf, factsBeside}
 use Rattle.facts.specs.declared.Facts.{Facts}
-use Rattle.facts.proofs.Demands.{v-length-within}
+use Rattle.facts.proofs.Demands.{v-length-within, v-length-beside}
 use Rattle.order.specs.declared.Order.{Order}
-use Rattle.rules.specs.Categories.{speedOf, none, categoryOf}
-use Rattle.rules.specs.Brakes.{begunOf, deductionOf, marginFor}
-use Rattle.rules.specs.WholeLength.{wholeDeductionOf, wholeMarginFor}
-use Rattle.rules.specs.Rules.{Rule, rule, firstBroken, numbersOf, termsOf}
+use Rattle.categories.specs.Categories.{crossRows, lineSpeed, speedOf, none, categoryOf}
+use Rattle.categories.specs.Brakes.{begunOf, marginFor}
+use Rattle.categories.specs.declared.category.Category.{Category}
+use Rattle.rules.specs.Rules.{Rule, rule, firstBroken, numbersOf, isShort, termsOf}
 use Rattle.rules.specs.Books.{RuleBook, rulesOf, brokenBy, Rise, Sound}
 use Rattle.rules.specs.CrossBorder.{ownRules, crossBorder}
+use Rattle.rules.specs.Withdrawn.{stood, formerBook, longerThanAll, NotReached, formerly}
 use Rattle.rules.specs.Grants.{stands, offerOf, bestOf, grantedOf, decisionOf, offersFrom, MayBeGranted, Among, Offered, Stands, Granted, KeepsNumber, Standing}
-use Rattle.rules.specs.declared.category.Category.{Category}
-use Rattle.rules.specs.declared.category.Weigh.{Weigh}
 use Rattle.rules.specs.declared.grant.Offer.{Offer}
 use Rattle.rules.specs.declared.grant.Best.{Best}
 use Rattle.rules.specs.declared.rule.Terms.{Terms}
-use Rattle.rules.proofs.Deductions as deductions
 use Rattle.rules.proofs.Grants as grants
 use Rattle.rules.proofs.Offers as offers
 use Rattle.rules.proofs.Offers.{may-offered, offered-may, is-granted}
 use Rattle.rules.proofs.Rows as table
+use Rattle.rules.proofs.Withdrawn as withdrawn
 use Rattle.rules.proofs.Rules as laws
 use Rattle.rules.proofs.Rules.{first-some, zero-none}
 
--- ---- the five categories, column by column of document 01's table
-pub category-table :
-    (map (λ (c : Category). c .number) (crossBorder .rows) ≡ 1 ∷ 2 ∷ 3 ∷ 4 ∷ 5 ∷ [])
-    × (map (λ (c : Category). c .speed) (crossBorder .rows) ≡ 120 ∷ 100 ∷ 100 ∷ 100 ∷ 90 ∷ [])
-    × (map (λ (c : Category). c .percentage) (crossBorder .rows) ≡ 77 ∷ 60 ∷ 60 ∷ 57 ∷ 50 ∷ [])
-    × (map (λ (c : Category). c .column) (crossBorder .rows) ≡ 0 ∷ 1 ∷ 2 ∷ 2 ∷ 3 ∷ [])
+-- ---- the rows of a book
+-- those of the cross-border book are the page's five categories
+pub cross-border-rows : crossBorder .rows ≡ crossRows
 unfolding crossBorder
-category-table = (refl, refl, refl, refl)
+cross-border-rows = refl
 
 -- where the numbers rise a category is the one of its number, and 0 has none
 pub category-among : (rows : List Category) (c : Category) → Rise 0 rows → Among c rows → categoryOf (c .number) rows ≡ c
@@ -49,15 +49,11 @@ category-among = table.category-among 0
 pub category-none : (rows : List Category) → Rise 0 rows → categoryOf 0 rows ≡ none
 category-none rows = table.category-none 0 0 rows (omega arith)
 
--- no line and no record gives a category more than its own speed
-pub own-speed-most : (c : Category) (f : Facts) (o : Order) → speedOf c f o ≤ c .speed
-own-speed-most = table.own-speed-most
-
 -- ---- the rules, in the order they are asked
 -- the numbers of the common rules, and of a category's whole list
 pub rule-numbers : (t : Terms) (f : Facts)
     → (numbersOf (crossBorder .common f) ≡ 15 ∷ 16 ∷ 17 ∷ 18 ∷ 19 ∷ 20 ∷ 21 ∷ 22 ∷ 23 ∷ [])
-    × (numbersOf (crossBorder .rules t f) ≡ 15 ∷ 16 ∷ 17 ∷ 18 ∷ 19 ∷ 20 ∷ 21 ∷ 22 ∷ 23 ∷ 30 ∷ 31 ∷ 32 ∷ 33 ∷ 34 ∷ 35 ∷ 40 ∷ 41 ∷ 42 ∷ 43 ∷ 44 ∷ 46 ∷ 47 ∷ [])
+    × (numbersOf (crossBorder .rules t f) ≡ 15 ∷ 16 ∷ 17 ∷ 18 ∷ 19 ∷ 20 ∷ 21 ∷ 22 ∷ 23 ∷ 30 ∷ 31 ∷ 32 ∷ 33 ∷ 34 ∷ 35 ∷ 40 ∷ 41 ∷ 42 ∷ 43 ∷ 44 ∷ 47 ∷ [])
 unfolding crossBorder
 rule-numbers t f = (refl, refl)
 
@@ -67,26 +63,54 @@ unfolding crossBorder
 cross-border-sound = record { numbered = λ t f. omega arith; rising = omega arith }
 
 -- the last is broken exactly when the margin is below zero
-pub rule-47 : (c : Category) (f : Facts) (o : Order) → caseAt 0 (rulesOf crossBorder c f o) 21 ≡ rule 47 (ltZ (marginFor c f o) (pos 0))
+pub rule-47 : (c : Category) (f : Facts) (o : Order) → caseAt 0 (rulesOf crossBorder c f o) 20 ≡ rule 47 (ltZ (marginFor c f o) (pos 0))
 unfolding crossBorder termsOf
 rule-47 c f o = refl
 
--- 46 asks for more than 10 begun 20 m of the hauled vehicles set to V in 1 to 3
-pub rule-46 : (c : Category) (f : Facts) (o : Order) → caseAt 0 (rulesOf crossBorder c f o) 20 ≡ rule 46 (not (c .isg) && begunOf (f .hauledVLength) above 10)
-unfolding crossBorder termsOf
+-- ---- rule 46, withdrawn by request Five: the former list, which had it behind 44, against today's
+pub former-numbers : (t : Terms) (f : Facts) → numbersOf (formerBook .rules t f) ≡ 15 ∷ 16 ∷ 17 ∷ 18 ∷ 19 ∷ 20 ∷ 21 ∷ 22 ∷ 23 ∷ 30 ∷ 31 ∷ 32 ∷ 33 ∷ 34 ∷ 35 ∷ 40 ∷ 41 ∷ 42 ∷ 43 ∷ 44 ∷ 46 ∷ 47 ∷ []
+unfolding formerBook
+former-numbers t f = refl
+
+-- it asked for more than 10 begun 20 m of the hauled vehicles set to V in 1 to 3
+pub rule-46 : (c : Category) (f : Facts) (o : Order) → caseAt 0 (rulesOf formerBook c f o) stood ≡ rule 46 (not (c .isg) && begunOf (f .hauledVLength) above 10)
+unfolding formerBook termsOf
 rule-46 c f o = refl
 
--- ---- the length that k counts, against the whole hauled length
--- where it is at most the whole, k has not grown
-pub k-not-grown : (w : Weigh) (f : Facts) → f .hauledVLength ≤ f .hauledLength → deductionOf w f ≤ wholeDeductionOf w f
-k-not-grown = deductions.k-not-grown
+-- from 7,001 on, where nothing else is broken
+pub former-limits : (map (formerly 7000) (1 ∷ 2 ∷ 3 ∷ 4 ∷ 5 ∷ []) ≡ replicate 5 0) × (map (formerly 7001) (1 ∷ 2 ∷ 3 ∷ 4 ∷ 5 ∷ []) ≡ 46 ∷ 46 ∷ 46 ∷ 0 ∷ 0 ∷ [])
+unfolding formerBook crossBorder brokenBy termsOf lineSpeed marginFor marginOf fourfold
+former-limits = (refl, refl)
 
--- so it has for no train, and for no train, category and order is the margin less than it was
-pub train-k-not-grown : (w : Weigh) (train : List Vehicle) → deductionOf w (factsOf train) ≤ wholeDeductionOf w (factsOf train)
-train-k-not-grown w train = deductions.k-not-grown w (factsOf train) (v-length-within train)
+-- no list of vehicles has more than 700 m set to V in a hauled part of at most 700 m
+pub train-not-longer : (train : List Vehicle) → longerThanAll (factsOf train) ≡ false
+train-not-longer train = withdrawn.not-longer (factsOf train) (v-length-within train)
 
-pub train-margin-not-less : (c : Category) (train : List Vehicle) (o : Order) → wholeMarginFor c (factsOf train) o ≤ℤ marginFor c (factsOf train) o
-train-margin-not-less c train o = deductions.margin-not-less c (factsOf train) o (v-length-within train)
+pub account-not-longer : (engines hauled : List Vehicle) → longerThanAll (factsBeside engines (accountOf hauled)) ≡ false
+account-not-longer engines hauled = withdrawn.not-longer (factsBeside engines (accountOf hauled)) (v-length-beside engines hauled)
+
+-- no whole train reaches it, and no engines with an account that comes from a list: wherever its test holds, 22 is broken
+pub no-train-reaches-46 : (c : Category) (train : List Vehicle) (o : Order) → NotReached c (factsOf train) o
+no-train-reaches-46 c train o = withdrawn.not-reached (factsOf train) (train-not-longer train) c o
+
+pub no-account-reaches-46 : (c : Category) (engines hauled : List Vehicle) (o : Order) → NotReached c (factsBeside engines (accountOf hauled)) o
+no-account-reaches-46 c engines hauled o = withdrawn.not-reached (factsBeside engines (accountOf hauled)) (account-not-longer engines hauled) c o
+
+-- today no facts at all have it as the first broken: the number is given to no other rule
+pub number-46-unused : (c : Category) (f : Facts) (o : Order) → brokenBy crossBorder c f o ≡ 46 → ⊥
+number-46-unused = withdrawn.number-unused
+
+-- what a category breaks first has not changed, or it was 46 and is 47 or none
+pub former-or-46 : (c : Category) (f : Facts) (o : Order)
+    → (brokenBy formerBook c f o ≡ brokenBy crossBorder c f o) ⊎ ((brokenBy formerBook c f o ≡ 46) × (brokenBy crossBorder c f o ≡ cond (isShort c f o) 47 0))
+former-or-46 = withdrawn.former-or-46
+
+-- nothing that is decided has changed, save of such figures
+pub broken-kept : (f : Facts) → longerThanAll f ≡ false → (c : Category) (o : Order) → brokenBy formerBook c f o ≡ brokenBy crossBorder c f o
+broken-kept = withdrawn.broken-kept
+
+pub decision-kept : (f : Facts) → longerThanAll f ≡ false → (o : Order) → decisionOf formerBook f o ≡ decisionOf crossBorder f o
+decision-kept = withdrawn.decision-kept
 
 -- ---- the first rule broken
 -- a rule's number is given exactly when it is broken and no earlier one is

@@ -9,10 +9,10 @@ use lib.Dec.{leb, eqb}
 use Rattle.lists.proofs.Lists.{both}
 use Rattle.facts.specs.declared.Facts.{Facts}
 use Rattle.order.specs.declared.Order.{Order}
-use Rattle.rules.specs.Categories.{speedOf}
+use Rattle.categories.specs.Categories.{speedOf}
+use Rattle.categories.specs.declared.category.Category.{Category}
 use Rattle.rules.specs.Books.{RuleBook, Rise}
 use Rattle.rules.specs.Grants.{stands, bestOf, offerOf, offersOf, grantedOf, MayBeGranted, Among, Offered, Stands, Rising, Granted, KeepsNumber, Standing}
-use Rattle.rules.specs.declared.category.Category.{Category}
 use Rattle.rules.specs.declared.grant.Offer.{Offer}
 use Rattle.rules.proofs.Grants.{best-granted}
 

@@ -1,4 +1,4 @@
--- The rows of a book: the category of a number, where the numbers rise, and its speed. Assumes nothing.
+-- The rows of a book: the category of a number, where the numbers rise. Assumes nothing.
 use Prim.Native.Nat.{ℕ, _≤_, _<_}
 use native.Mathlib.Omega.{arith}
 use mathlib.Core.Path.{_≡_, refl, sym, ap, _∙_}
@@ -6,12 +6,10 @@ use mathlib.Core.Bool.{Bool, cond}
 use mathlib.Core.List.{List, [], _∷_}
 use mathlib.Core.Logic.{inl, inr}
 use borrow.Author.Tests.{eq-eqb, ne-eqb}
-use Rattle.facts.specs.declared.Facts.{Facts}
-use Rattle.order.specs.declared.Order.{Order}
-use Rattle.rules.specs.Categories.{speedOf, none, categoryOf}
+use Rattle.categories.specs.Categories.{none, categoryOf}
+use Rattle.categories.specs.declared.category.Category.{Category}
 use Rattle.rules.specs.Books.{Rise}
 use Rattle.rules.specs.Grants.{Among}
-use Rattle.rules.specs.declared.category.Category.{Category}
 
 -- a category of rows that rise from above m
 above : (m : ℕ) (rows : List Category) (c : Category) → Rise m rows → Among c rows → m < c .number
@@ -36,7 +34,3 @@ category-none n m [] h r = refl
 category-none n m (x ∷ rows) h r =
     let p : m < x .number = r .0 in
     other n x rows (λ e. omega arith) ∙ category-none n (x .number) rows (omega arith) (r .1)
-
-pub own-speed-most : (c : Category) (f : Facts) (o : Order) → speedOf c f o ≤ c .speed
-unfolding speedOf
-own-speed-most c f o = omega arith

@@ -5,8 +5,8 @@ use mathlib.Core.List.{List, [], _∷_}
 use Rattle.lists.specs.Words.{Every}
 use Rattle.facts.specs.declared.Facts.{Facts}
 use Rattle.order.specs.declared.Order.{Order}
+use Rattle.categories.specs.declared.category.Category.{Category}
 use Rattle.rules.specs.Rules.{Rule, firstBroken, termsOf}
-use Rattle.rules.specs.declared.category.Category.{Category}
 use Rattle.rules.specs.declared.rule.Terms.{Terms}
 
 -- the categories in order, the rules common to all, the rules of a category in the order they are asked, and when the mark byte is 1, of the asked number

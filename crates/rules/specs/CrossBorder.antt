@@ -1,14 +1,11 @@
--- RC A 7a no 11 as document 01 condenses it: the table, and the rules, one line a rule, its number and article beside it.
-use Prim.Native.Nat.{ℕ}
-use mathlib.Core.Bool.{Bool, true, false, not, _&&_}
+-- RC A 7a no 11 as document 01 condenses it: the rules, one line a rule, its number and article beside it.
+use mathlib.Core.Bool.{not, _&&_}
 use mathlib.Core.List.{List, [], _∷_, _++_}
 use Rattle.lists.specs.Words.{_is_, _above_, _atMost_}
 use Rattle.facts.specs.declared.Facts.{Facts}
+use Rattle.categories.specs.Categories.{crossRows}
 use Rattle.rules.specs.Rules.{Rule, rule}
 use Rattle.rules.specs.Books.{RuleBook}
-use Rattle.rules.specs.declared.category.Category.{Category}
-use Rattle.rules.specs.declared.category.Weigh.{Weigh}
-use Rattle.rules.specs.declared.category.Weigh.the-variants.{ThreeQuarters, Whole}
 use Rattle.rules.specs.declared.rule.Terms.{Terms}
 
 -- common to every category
@@ -32,24 +29,6 @@ commonRules f =
     ∷ rule 22 (f .hauledLength above 7000)
     -- 23: more than 250 axles in the train (203)
     ∷ rule 23 (f .axles above 250)
-    ∷ []
-
--- number, speed, percentage, column from ME120 as 0, whether it is one of "4 and 5", what M counts
-abbrev row : ℕ → ℕ → ℕ → ℕ → Bool → Weigh → Category
-row n s p c g w = record { number = n; speed = s; percentage = p; column = c; isg = g; weigh = w }
-
-abbrev pub crossRows : List Category
-crossRows =
-    -- ME120/P120, column ME120
-    row 1 120 77 0 false ThreeQuarters
-    -- ME100/P100, column ME100
-    ∷ row 2 100 60 1 false ThreeQuarters
-    -- MA100/P100, column MA100
-    ∷ row 3 100 60 2 false ThreeQuarters
-    -- MA100/G100, column MA100
-    ∷ row 4 100 57 2 true Whole
-    -- MA90/G90, column MA90
-    ∷ row 5 90 50 3 true Whole
     ∷ []
 
 -- after the common ones, in rising number
@@ -77,8 +56,7 @@ ownRules t f =
     ∷ rule 43 (not (t .isg) && f .hauledMass above 12000 && f .firstFiveV)
     -- 44, 1 to 3: hauled mass above 1,200 t and a hauled vehicle after the fifth set to M (note 6)
     ∷ rule 44 (not (t .isg) && f .hauledMass above 12000 && f .afterFifthM)
-    -- 46, 1 to 3: more than 10 begun 20 m of the hauled vehicles set to V (note 7)
-    ∷ rule 46 (not (t .isg) && t .begun above 10)
+    -- 46 is withdrawn (request Five), and its number is given to no other rule
     -- 47, all: braked mass too small
     ∷ rule 47 (t .short)
     ∷ []

@@ -5,16 +5,16 @@ use mathlib.Core.List.{List}
 use Rattle.lists.specs.Words.{leading}
 use Rattle.facts.specs.declared.Facts.{Facts}
 use Rattle.order.specs.declared.Order.{Order}
-use Rattle.rules.specs.Brakes.{partsOf, deductionOf}
+use Rattle.categories.specs.Brakes.{partsOf, deductionOf}
+use Rattle.categories.specs.declared.category.Weigh.{Weigh}
 use Rattle.rules.specs.Rules.{Rule, firstBroken, marksOf, termsAt}
 use Rattle.rules.specs.Books.{RuleBook}
-use Rattle.rules.specs.declared.category.Weigh.{Weigh}
 use Rattle.rules.specs.declared.rule.Family.{Family}
 use Rattle.rules.specs.declared.rule.Terms.{Terms}
 
 -- the same for all of 1 to 3, or for 4 and 5: the terms at which neither the line nor the margin breaks a rule
-unfoldable pub stillOf : Bool → Facts → Order → Terms
-stillOf isg f o = termsAt isg 1 false f o
+unfoldable pub stillOf : Bool → Order → Terms
+stillOf isg o = termsAt isg 1 false o
 
 -- the place of the first rule broken, counted from 0; behind the last where none is
 unfoldable pub firstPlace : List Rule → ℕ
@@ -22,8 +22,8 @@ firstPlace rules = leading not (marksOf rules)
 
 -- what a category has alike with the others of its family: the place of the first rule broken at the still terms, the parts of Q, k
 unfoldable pub familyOf : RuleBook → Bool → Weigh → Facts → Order → Family
-familyOf b isg w f o = record { place = firstPlace (b .rules (stillOf isg f o) f); parts = partsOf w f; k = deductionOf w f }
+familyOf b isg w f o = record { place = firstPlace (b .rules (stillOf isg o) f); parts = partsOf w f; k = deductionOf w f }
 
 -- the first rule broken at the still terms, or 0
 unfoldable pub familyFirst : RuleBook → Bool → Facts → Order → ℕ
-familyFirst b isg f o = firstBroken (b .rules (stillOf isg f o) f)
+familyFirst b isg f o = firstBroken (b .rules (stillOf isg o) f)

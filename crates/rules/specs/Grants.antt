@@ -7,9 +7,9 @@ use mathlib.Core.Logic.{_⊎_}
 use Rattle.lists.specs.Words.{_is_, _atMost_}
 use Rattle.facts.specs.declared.Facts.{Facts}
 use Rattle.order.specs.declared.Order.{Order}
-use Rattle.rules.specs.Categories.{speedOf}
+use Rattle.categories.specs.Categories.{speedOf}
+use Rattle.categories.specs.declared.category.Category.{Category}
 use Rattle.rules.specs.Books.{RuleBook, brokenBy}
-use Rattle.rules.specs.declared.category.Category.{Category}
 use Rattle.rules.specs.declared.grant.Offer.{Offer}
 use Rattle.rules.specs.declared.grant.Best.{Best}
 use Rattle.rules.specs.declared.grant.Decision.{Decision}

@@ -1,9 +1,7 @@
-pub mod Categories
-pub mod Brakes
 pub mod Rules
 pub mod Books
 pub mod Families
 pub mod CrossBorder
 pub mod Grants
-pub mod WholeLength
 pub mod Limits
+pub mod Withdrawn

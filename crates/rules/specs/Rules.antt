@@ -2,12 +2,14 @@
 use Prim.Native.Nat.{ℕ, min}
 use mathlib.Core.Bool.{Bool, cond}
 use mathlib.Core.List.{List, map}
+use lib.IntN.{pos}
+use lib.Signed.{ltZ}
 use Rattle.lists.specs.Words.{Case, firstOf}
 use Rattle.facts.specs.declared.Facts.{Facts}
 use Rattle.order.specs.declared.Order.{Order}
-use Rattle.rules.specs.Categories.{lineSpeed}
-use Rattle.rules.specs.Brakes.{begunOf, isShort}
-use Rattle.rules.specs.declared.category.Category.{Category}
+use Rattle.categories.specs.Categories.{lineSpeed}
+use Rattle.categories.specs.Brakes.{marginFor}
+use Rattle.categories.specs.declared.category.Category.{Category}
 use Rattle.rules.specs.declared.rule.Terms.{Terms}
 
 abbrev pub Rule : Type 0
@@ -28,18 +30,21 @@ abbrev pub marksOf : List Rule → List Bool
 marksOf rules = map (λ r. r .applies) rules
 
 -- what rules ask beside the facts, by whether it is one of 4 and 5, the line's speed and whether the braked mass is too small
-abbrev pub termsAt : Bool → ℕ → Bool → Facts → Order → Terms
-termsAt isg line short f o =
+abbrev pub termsAt : Bool → ℕ → Bool → Order → Terms
+termsAt isg line short o =
     record {
       isg = isg;
       line = line;
       -- more engines than 3 (1 to 3) or 6 (4 and 5)
       most = cond isg 6 3;
       load = min (o .coupling) (o .admissible);
-      begun = begunOf (f .hauledVLength);
       short = short;
     }
 
+-- 47: broken exactly when the margin is below zero
+abbrev pub isShort : Category → Facts → Order → Bool
+isShort c f o = ltZ (marginFor c f o) (pos 0)
+
 -- of a category and the order
 unfoldable pub termsOf : Category → Facts → Order → Terms
-termsOf c f o = termsAt (c .isg) (lineSpeed c o) (isShort c f o) f o
+termsOf c f o = termsAt (c .isg) (lineSpeed c o) (isShort c f o) o

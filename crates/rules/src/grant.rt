@@ -3,12 +3,12 @@ ghost use mathlib.Core.Path.{_≡_};
 ghost use Rattle.rules.specs.Families.{familyOf, familyFirst};
 ghost use Rattle.rules.specs.Grants.{offer, offerOf, betterOf, bestOf, offersFrom, decisionOf};
 ghost use Rattle.rules.specs.CrossBorder.{crossBorder};
-use crate::category::Category;
-use crate::category::Weigh;
 use crate::rule::Family;
 use crate::rule::broken_by;
 use crate::rule::family_of;
 use crate::rule::number_at;
+use categories::category::Category;
+use categories::category::Weigh;
 use facts::Facts;
 use order::Order;
 

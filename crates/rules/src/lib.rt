@@ -1,5 +1,3 @@
-// The rules: categories as data, braked mass and margin, which rule is the first broken, which category is granted.
-pub mod brake;
-pub mod category;
+// The rules: which one is the first broken, and which category is granted.
 pub mod grant;
 mod rule;

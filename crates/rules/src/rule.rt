@@ -3,19 +3,17 @@ ghost use mathlib.Core.Path.{_≡_};
 ghost use mathlib.Core.Bool.{not, cond};
 ghost use lib.ListN.{getD};
 ghost use Rattle.lists.specs.Words.{leading};
-ghost use Rattle.rules.specs.Categories.{lineSpeed};
-ghost use Rattle.rules.specs.Rules.{numbersOf, marksOf};
-ghost use Rattle.rules.specs.Brakes.{isShort};
+ghost use Rattle.categories.specs.Categories.{lineSpeed};
+ghost use Rattle.rules.specs.Rules.{numbersOf, marksOf, isShort};
 ghost use Rattle.rules.specs.Books.{brokenBy};
 ghost use Rattle.rules.specs.Families.{stillOf, firstPlace, familyOf, familyFirst};
 ghost use Rattle.rules.specs.CrossBorder.{crossRules, crossBorder};
 ghost use Rattle.facts.specs.declared.Facts.{Facts as Figures};
 ghost use Rattle.rules.specs.declared.rule.Terms.{Terms as Asked};
-use crate::brake::begun;
-use crate::brake::deduction;
-use crate::brake::parts;
-use crate::category::Category;
-use crate::category::Weigh;
+use categories::brake::deduction;
+use categories::brake::parts;
+use categories::category::Category;
+use categories::category::Weigh;
 use facts::Facts;
 use lists::number::lesser;
 use margin::Braked;
@@ -31,37 +29,36 @@ pub struct Terms {
     pub most: u32,
     // the smaller of LRA and admissible mass
     pub load: u32,
-    pub begun: u32,
     // braked mass too small
     pub short: bool,
 }
 
+// The most engines, working and hauled, of 1 to 3, and of 4 and 5 (rule 31).
+const ENGINES: u32 = 3;
+
+const ENGINES_G: u32 = 6;
+
 fn most_engines(isg: bool) -> u32
     ensures { λ r. ⌜ r ≡ cond isg 6 3 ⌝ }
 {
-    if isg {
-        Category::ENGINES_G
-    } else {
-        Category::ENGINES
-    }
+    if isg { ENGINES_G } else { ENGINES }
 }
 
 // The terms of 1 to 3, or of 4 and 5, at which neither the line nor the margin breaks a rule.
-fn still_terms(isg: bool, f: Facts, o: Order) -> Terms
-    ensures { λ r. ⌜ r ≡ stillOf isg f o ⌝ }
+fn still_terms(isg: bool, o: Order) -> Terms
+    ensures { λ r. ⌜ r ≡ stillOf isg o ⌝ }
 {
     Terms {
         isg: isg,
         line: 1,
         most: most_engines(isg),
         load: lesser(o.coupling, o.admissible),
-        begun: begun(f.hauledVLength),
         short: false,
     }
 }
 
 // Whether each rule is broken, in the order they are asked.
-fn marks_of(t: Terms, f: Facts) -> [bool; 22]
+fn marks_of(t: Terms, f: Facts) -> [bool; 21]
     ensures { λ r. ⌜ r ≡ marksOf (crossRules t f) ⌝ }
 {
     let g = t.isg;
@@ -86,7 +83,6 @@ fn marks_of(t: Terms, f: Facts) -> [bool; 22]
         !g & (f.hauledMass > 8000) & f.workingNotM,
         !g & (f.hauledMass > 12000) & f.firstFiveV,
         !g & (f.hauledMass > 12000) & f.afterFifthM,
-        !g & (t.begun > 10),
         t.short,
     ]
 }
@@ -126,7 +122,7 @@ pub(crate) fn family_of(isg: bool, w: Weigh, f: Facts, o: Order) -> Family
 {
     let parts = parts(w, f);
     Family {
-        place: first_place(still_terms(isg, f, o), f),
+        place: first_place(still_terms(isg, o), f),
         parts: parts,
         k: deduction(w, f),
     }
@@ -166,10 +162,9 @@ pub(crate) fn number_at(place: usize) -> u8
         42,
         43,
         44,
-        46,
         47,
     ];
-    if place < 22 { numbers[place] } else { 0 }
+    if place < 21 { numbers[place] } else { 0 }
 }
 
 fn either(first: bool, x: u8, y: u8) -> u8
@@ -178,13 +173,13 @@ fn either(first: bool, x: u8, y: u8) -> u8
     if first { x } else { y }
 }
 
-// The first rule that a category breaks, or 0: its family's first, 30 at place 9 or 47 at place 21, whichever is asked before.
+// The first rule that a category breaks, or 0: its family's first, 30 at place 9 or 47 at place 20, whichever is asked before.
 pub(crate) fn broken_by(m: Family, first: u8, line: u8, c: Category, f: Facts, o: Order) -> u8
     requires { ⌜ m ≡ familyOf crossBorder (c .isg) (c .weigh) f o ⌝ }
     requires { ⌜ (first ≡ familyFirst crossBorder (c .isg) f o) × (line ≡ lineSpeed c o) ⌝ }
     ensures { λ r. ⌜ r ≡ brokenBy crossBorder c f o ⌝ }
 {
     let missing = (line == 0) & (9 < m.place);
-    let short = is_short(m, c, f, o) & (21 < m.place);
+    let short = is_short(m, c, f, o) & (20 < m.place);
     either(missing, 30, either(short, 47, first))
 }

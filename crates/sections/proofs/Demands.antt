@@ -14,11 +14,12 @@ use Rattle.record.proofs.Records.{length-records}
 use Rattle.facts.specs.declared.Facts.{Facts}
 use Rattle.order.specs.Orders.{goodOrder, noOrder}
 use Rattle.order.specs.declared.Order.{Order}
-use Rattle.rules.specs.Categories.{speedOf, categoryOf}
+use Rattle.categories.specs.Categories.{speedOf, categoryOf}
+use Rattle.categories.specs.declared.category.Category.{Category}
 use Rattle.rules.specs.Books.{RuleBook, brokenBy, Sound}
 use Rattle.rules.specs.CrossBorder.{crossBorder}
+use Rattle.rules.specs.Withdrawn.{formerBook, longerThanAll}
 use Rattle.rules.specs.Grants.{bestOf, grantedOf, offersFrom, MayBeGranted, Among}
-use Rattle.rules.specs.declared.category.Category.{Category}
 use Rattle.rules.specs.declared.grant.Best.{Best}
 use Rattle.rules.proofs.Demands as rules
 use Rattle.rules.proofs.Demands.{category-among}
@@ -151,3 +152,8 @@ first-asks-itself orders = asks.first-itself (recordsOf orders)
 -- what is granted is the best of the rules and speeds that are worked out for each category
 pub granted-of-offers : (f : Facts) (os : List Order) → bestOf (askedOn os) (offersFrom 1 (offersOn crossBorder f os .broken) (offersOn crossBorder f os .speeds)) ≡ grantedOn crossBorder f os
 granted-of-offers = gathers.granted-by
+
+-- ---- rule 46, withdrawn by request Five
+-- no route is granted another category than by the former list, save where more than 700 m are said to be set to V in a hauled part of at most 700 m
+pub granted-kept : (f : Facts) → longerThanAll f ≡ false → (os : List Order) → grantedOn formerBook f os ≡ grantedOn crossBorder f os
+granted-kept = routes.granted-kept

@@ -11,9 +11,9 @@ use Rattle.record.specs.Records.{recordCount}
 use Rattle.facts.specs.declared.Facts.{Facts}
 use Rattle.order.specs.declared.Order.{Order}
 use Rattle.order.specs.Orders.{orderOf, orderRead}
-use Rattle.rules.specs.Categories.{speedOf, categoryOf}
-use Rattle.rules.specs.CrossBorder.{crossRows, crossBorder}
-use Rattle.rules.specs.declared.category.Category.{Category}
+use Rattle.categories.specs.Categories.{speedOf, categoryOf, crossRows}
+use Rattle.categories.specs.declared.category.Category.{Category}
+use Rattle.rules.specs.CrossBorder.{crossBorder}
 use Rattle.sections.specs.Routes.{sectionSpeed, speedsOn}
 use Rattle.sections.specs.Sections.{sectionsOf, laidOver}
 use Rattle.sections.proofs.Places.{length-sections, section-read, section-at}

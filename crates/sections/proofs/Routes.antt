@@ -10,12 +10,15 @@ use Rattle.lists.specs.Words.{_is_, Every}
 use Rattle.lists.proofs.Lists.{every-map}
 use Rattle.facts.specs.declared.Facts.{Facts}
 use Rattle.order.specs.declared.Order.{Order}
-use Rattle.rules.specs.Categories.{speedOf}
+use Rattle.categories.specs.Categories.{firstPresent, speedOf}
+use Rattle.categories.specs.declared.category.Category.{Category}
+use Rattle.categories.proofs.Demands.{own-speed-most}
 use Rattle.rules.specs.Books.{RuleBook, brokenBy, Rise}
-use Rattle.rules.specs.Grants.{bestOf, offerOf, grantedOf, MayBeGranted, Among, Stands, Granted, KeepsNumber}
-use Rattle.rules.specs.declared.category.Category.{Category}
+use Rattle.rules.specs.CrossBorder.{crossBorder}
+use Rattle.rules.specs.Grants.{offer, bestOf, offerOf, grantedOf, MayBeGranted, Among, Stands, Granted, KeepsNumber}
+use Rattle.rules.specs.Withdrawn.{formerBook, longerThanAll}
 use Rattle.rules.specs.declared.grant.Offer.{Offer}
-use Rattle.rules.proofs.Demands.{stands-exactly, rows-granted, among-stands, stands-among, own-speed-most}
+use Rattle.rules.proofs.Demands.{stands-exactly, rows-granted, among-stands, stands-among, broken-kept}
 use Rattle.sections.specs.Routes.{askedOn, slowestOf, brokenOn, routeOffer, grantedOn, Somewhere, MayBeGrantedOn, BreaksOn, OfferedOn}
 
 -- ---- a rule broken on some section, or on none
@@ -140,3 +143,9 @@ module _ (b : RuleBook) (f : Facts) (o : Order) where
   pub one-section : grantedOn b f (o ∷ []) ≡ grantedOf b f o
   unfolding grantedOn grantedOf
   one-section = ap (bestOf (o .asked)) (one-offers (b .rows))
+
+-- by the former list a route is granted the same
+pub granted-kept : (f : Facts) → longerThanAll f ≡ false → (os : List Order) → grantedOn formerBook f os ≡ grantedOn crossBorder f os
+unfolding grantedOn routeOffer brokenOn formerBook
+granted-kept f elsewhere os =
+    λ i. bestOf (askedOn os) (map (λ c. offer (c .number) (slowestOf c f os) (firstPresent (map (λ o. broken-kept f elsewhere c o i) os))) (crossBorder .rows))

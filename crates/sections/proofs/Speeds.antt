@@ -12,11 +12,12 @@ use Rattle.lists.proofs.Lists.{every-map}
 use Rattle.facts.specs.declared.Facts.{Facts}
 use Rattle.order.specs.Orders.{noOrder}
 use Rattle.order.specs.declared.Order.{Order}
-use Rattle.rules.specs.Categories.{speedOf, categoryOf}
+use Rattle.categories.specs.Categories.{speedOf, categoryOf}
+use Rattle.categories.specs.declared.category.Category.{Category}
+use Rattle.categories.proofs.Demands.{own-speed-most}
 use Rattle.rules.specs.Books.{RuleBook, Rise}
 use Rattle.rules.specs.Grants.{grantedOf, Offered}
-use Rattle.rules.specs.declared.category.Category.{Category}
-use Rattle.rules.proofs.Demands.{category-among, category-none, own-speed-most}
+use Rattle.rules.proofs.Demands.{category-among, category-none}
 use Rattle.sections.specs.Routes.{slowestOf, sectionSpeed, speedsOn, Somewhere}
 
 -- ---- the slowest section

@@ -7,10 +7,10 @@ use Rattle.lists.specs.Words.{Every}
 use Rattle.lists.specs.Figures.{least}
 use Rattle.facts.specs.declared.Facts.{Facts}
 use Rattle.order.specs.declared.Order.{Order}
-use Rattle.rules.specs.Categories.{firstPresent, speedOf, categoryOf}
+use Rattle.categories.specs.Categories.{firstPresent, speedOf, categoryOf}
+use Rattle.categories.specs.declared.category.Category.{Category}
 use Rattle.rules.specs.Books.{RuleBook, brokenBy}
 use Rattle.rules.specs.Grants.{offer, bestOf, Among}
-use Rattle.rules.specs.declared.category.Category.{Category}
 use Rattle.rules.specs.declared.grant.Offer.{Offer}
 use Rattle.rules.specs.declared.grant.Best.{Best}
 

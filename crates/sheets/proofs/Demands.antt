@@ -1,7 +1,7 @@
 -- Demand 2 over the sheet's bytes: the theorems, over the definitions of specs/. Assumes nothing.
 use Prim.Native.Nat.{_+_, _≤_}
 use mathlib.Core.Path.{_≡_, refl, ap, _∙_}
-use mathlib.Core.Bool.{cond}
+use mathlib.Core.Bool.{false, cond}
 use mathlib.Core.List.{[], map}
 use lib.IntN.{ℤ, pos}
 use lib.ListN.{length, getD, take, drop}
@@ -11,13 +11,15 @@ use Rattle.margin.specs.Margin.{tonnesOf, signedOf}
 use Rattle.margin.proofs.Demands.{read-back-margin, below-zero}
 use Rattle.facts.specs.declared.Facts.{Facts}
 use Rattle.order.specs.declared.Order.{Order}
-use Rattle.rules.specs.Categories.{percentageOf}
-use Rattle.rules.specs.Brakes.{marginFor, isShort, brakedOf}
-use Rattle.rules.specs.Rules.{firstBroken}
+use Rattle.categories.specs.Categories.{percentageOf}
+use Rattle.categories.specs.Brakes.{marginFor, brakedOf}
+use Rattle.rules.specs.Rules.{firstBroken, isShort}
 use Rattle.rules.specs.Books.{RuleBook, rulesOf, brokenBy}
 use Rattle.rules.specs.CrossBorder.{crossBorder}
 use Rattle.rules.specs.Grants.{grantedOf, decisionOf}
+use Rattle.rules.specs.Withdrawn.{formerBook, longerThanAll}
 use Rattle.sheets.specs.Sheets.{sheetLength, askedOf, figuresOf, sheetOf}
+use Rattle.sheets.proofs.Sheets as sheets
 use Rattle.sheets.proofs.Sheets.{reached}
 
 -- the named length is the page's, and the sheet has it
@@ -73,3 +75,8 @@ module _ (f : Facts) (o : Order) where
     -- and below zero exactly when its braked mass is too small, which is rule 47
     pub margin-true-sign : ltZ (signedOf (take 3 (drop 10 (sheetOf crossBorder f o)))) (pos 0) ≡ isShort (askedOf crossBorder o) f o
     margin-true-sign = ap (λ (z : ℤ). ltZ z (pos 0)) margin-read-back ∙ below-zero (marginFor (askedOf crossBorder o) f o)
+
+-- ---- rule 46, withdrawn by request Five
+-- no byte of a sheet is another than by the former list, save where more than 700 m are said to be set to V in a hauled part of at most 700 m
+pub sheet-kept : (f : Facts) → longerThanAll f ≡ false → (o : Order) → sheetOf formerBook f o ≡ sheetOf crossBorder f o
+sheet-kept = sheets.sheet-kept

@@ -10,11 +10,11 @@ use Rattle.facts.specs.Facts.{factsOf}
 use Rattle.facts.specs.declared.Facts.{Facts}
 use Rattle.order.specs.Orders.{orderOf}
 use Rattle.order.specs.declared.Order.{Order}
-use Rattle.rules.specs.Categories.{categoryOf}
-use Rattle.rules.specs.Brakes.{deductionOf, marginFor}
+use Rattle.categories.specs.Categories.{categoryOf, crossRows}
+use Rattle.categories.specs.Brakes.{deductionOf, marginFor}
+use Rattle.categories.specs.declared.category.Category.{Category}
 use Rattle.rules.specs.Books.{brokenBy}
-use Rattle.rules.specs.CrossBorder.{crossRows, crossBorder}
-use Rattle.rules.specs.declared.category.Category.{Category}
+use Rattle.rules.specs.CrossBorder.{crossBorder}
 use Rattle.sheets.specs.Sheets.{sheetOf}
 
 -- ---- A, as bytes

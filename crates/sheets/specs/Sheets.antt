@@ -6,12 +6,12 @@ use Rattle.lists.specs.Numbers.{fourBytes}
 use Rattle.margin.specs.Margin.{tonnesOf, bytesOf}
 use Rattle.facts.specs.declared.Facts.{Facts}
 use Rattle.order.specs.declared.Order.{Order}
-use Rattle.rules.specs.Categories.{percentageOf, categoryOf}
-use Rattle.rules.specs.Brakes.{marginFor, brakedOf}
+use Rattle.categories.specs.Categories.{percentageOf, categoryOf}
+use Rattle.categories.specs.Brakes.{marginFor, brakedOf}
+use Rattle.categories.specs.declared.category.Category.{Category}
 use Rattle.rules.specs.Rules.{firstBroken}
 use Rattle.rules.specs.Books.{RuleBook}
 use Rattle.rules.specs.Grants.{decisionOf}
-use Rattle.rules.specs.declared.category.Category.{Category}
 use Rattle.sheets.specs.declared.Sheet.{Sheet}
 
 -- bytes of a cross-border sheet

@@ -14,6 +14,7 @@ use oracle::gen::vectors::{inputs, route_inputs};
 use oracle::line::{line, route_line, route_parts, MOST_INPUT, MOST_ROUTE};
 use oracle::ranges::hold_file;
 use oracle::route::SECTIONS;
+use oracle::withdrawal::is_as_before;
 
 const USAGE: &str = "usage: oracle line | oracle route | oracle vectors DIR SEED SHEETS ROUTES | oracle counts SEED N | oracle ranges FILE";
 
@@ -65,6 +66,8 @@ struct Frames {
     bytes: Vec<u8>,
     lines: String,
     coverage: Coverage,
+    /// Those that had another line before 46 was withdrawn.
+    changed: u64,
 }
 
 impl Frames {
@@ -75,6 +78,7 @@ impl Frames {
         self.lines += line;
         let (answer, written) = call.outcome(&Model);
         self.coverage.note(&call, answer, &written);
+        self.changed += u64::from(!is_as_before(&call, answer, &written));
     }
 }
 
@@ -98,11 +102,12 @@ fn vectors(folder: &Path, seed: u64, sheets: usize, routes: usize) -> io::Result
     fs::write(folder.join("stdin"), &frames.bytes)?;
     fs::write(folder.join("stdout"), &frames.lines)?;
     println!(
-        "{} bytes of frames, {} of lines",
+        "{} bytes of frames, {} of lines; {} other lines under the former list",
         frames.bytes.len(),
-        frames.lines.len()
+        frames.lines.len(),
+        frames.changed
     );
-    Ok(finish(&frames.coverage, Scope::Lines))
+    Ok(finish(&frames.coverage, Scope::Lines, frames.changed))
 }
 
 fn sheet_call(input: &[u8]) -> Call {
@@ -130,7 +135,7 @@ fn route_call(input: &[u8]) -> Call {
     }
 }
 
-/// The model on both sides: only what it meets is of interest.
+/// The model on both sides: what it meets is of interest, and that it keeps to the former list.
 fn counts(seed: u64, cases: u64) -> io::Result<ExitCode> {
     let run = Run {
         library: &Model,
@@ -139,7 +144,14 @@ fn counts(seed: u64, cases: u64) -> io::Result<ExitCode> {
     };
     // A number brings some 150 calls, so a fortieth of them is enough.
     let report = run.cases(0..cases, 0..cases, 0..cases, 0..cases / 40);
-    Ok(finish(&report.coverage, Scope::Functions))
+    for difference in &report.shown {
+        print!("{difference}");
+    }
+    Ok(finish(
+        &report.coverage,
+        Scope::Functions,
+        report.differences,
+    ))
 }
 
 /// The page against the model alone.
@@ -149,7 +161,8 @@ fn ranges(file: &str) -> io::Result<ExitCode> {
     Ok(ExitCode::from(u8::from(!held.is_good())))
 }
 
-fn finish(coverage: &Coverage, scope: Scope) -> ExitCode {
+/// Good where nothing is wrong, missing or impossible.
+fn finish(coverage: &Coverage, scope: Scope, wrong: u64) -> ExitCode {
     print!("{}", coverage.table(scope));
     let missing = coverage.missing(scope);
     for what in &missing {
@@ -159,7 +172,7 @@ fn finish(coverage: &Coverage, scope: Scope) -> ExitCode {
     for what in &impossible {
         println!("met and cannot be: {what}");
     }
-    match missing.is_empty() && impossible.is_empty() {
+    match wrong == 0 && missing.is_empty() && impossible.is_empty() {
         true => ExitCode::SUCCESS,
         false => ExitCode::FAILURE,
     }

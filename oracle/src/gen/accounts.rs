@@ -5,7 +5,10 @@ use super::draft::bytes;
 use super::lengths::BOUNDS;
 use super::trains::{plain_train, train, Size};
 use crate::account::{Account, ACCOUNT, NO_SETTING};
+use crate::category::CATEGORIES;
+use crate::facts::Facts;
 use crate::offered::probes;
+use crate::order::Order;
 use crate::random::Random;
 use crate::vehicle::{Vehicle, ISOLATED, SET_TO_M, SET_TO_V};
 
@@ -140,6 +143,35 @@ pub fn plausible(random: &mut Random) -> Account {
         first,
         length_v: plausible_length_v(random, length),
     }
+}
+
+/// What no list has: about 700 m set to V, or far more, in at most 700 m; one of categories 1 to 3 is just short or just not.
+pub fn longer_in_v(random: &mut Random, working: &[Vehicle], order: &Order) -> Account {
+    let all_in_m = working.iter().all(|engine| engine.setting == SET_TO_M);
+    // With engines in M it may be a long locomotive.
+    let (mass, setting, in_m) = match all_in_m && random.percent(50) {
+        true => (random.between(12_001, 16_000), SET_TO_M, 5),
+        false => (random.between(500, 8_000), SET_TO_V, 0),
+    };
+    let length_v = random.pick(&[7_000, 7_000, 7_200, 20_000, 199_999]) + random.around();
+    let mut account = Account {
+        count: random.pick(&[5, 20, 198]),
+        mass: mass as u32,
+        braked_m: 200 * in_m,
+        length: random.pick(&[150, 5_000, 6_999, 7_000]),
+        axles: 40,
+        axles_v: random.pick(&[12, 40]),
+        set_to_m: in_m,
+        slowest: random.pick(&[90, 100, 120]),
+        first: [setting; 5],
+        length_v: length_v as u32,
+        ..Account::EMPTY
+    };
+    let facts = Facts::of_account(bytes(working).as_chunks().0, &account);
+    let short = -CATEGORIES[random.below(3)].margin(&facts, order);
+    let missing = short.div_euclid(4 * (100 - facts.k));
+    account.braked_v = (missing + random.around()).clamp(0, 500_000) as u32;
+    account
 }
 
 /// All of the length, about a begun 20 m, or what no train has.

@@ -1,6 +1,7 @@
 //! A train being drawn up: vehicles and order with their fields still open to change.
 
 use super::numbers::closed;
+use crate::call::Inputs;
 use crate::facts::Facts;
 use crate::order::Order;
 use crate::vehicle::{Record, Vehicle};
@@ -22,6 +23,23 @@ impl Draft {
         let mut input = self.order.write().to_vec();
         input.extend(self.vehicles());
         input
+    }
+
+    /// For the sheet of the whole train.
+    pub fn of_train(&self) -> Inputs {
+        Inputs::Train {
+            vehicles: self.vehicles(),
+            order: self.order.write().to_vec(),
+        }
+    }
+
+    /// For the sheet of its engines with an account.
+    pub fn of_account(&self, hauled: Vec<u8>) -> Inputs {
+        Inputs::Engines {
+            engines: bytes(&self.working),
+            hauled,
+            order: self.order.write().to_vec(),
+        }
     }
 
     pub fn facts(&self) -> Facts {

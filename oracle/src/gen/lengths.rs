@@ -1,15 +1,18 @@
-//! Trains whose hauled vehicles set to V have a length at a begun 20 m, with metres beside that k does not count.
+//! Trains whose hauled vehicles set to V have a length at a begun 20 m, with metres beside that k does not count, or pass 700 m.
 
 use super::draft::{aim, Draft, LENGTH, MASS};
 use super::margins::{aim_margin, set_to};
 use super::trains::{plain_train, Size};
 use crate::random::Random;
-use crate::vehicle::{Vehicle, ISOLATED, SET_TO_M, SET_TO_R, SET_TO_V, WAGON};
+use crate::vehicle::{Vehicle, HAULED_ENGINE, ISOLATED, SET_TO_M, SET_TO_R, SET_TO_V, WAGON};
 
 /// Where k begins, and each begun 20 m behind.
 pub const BOUNDS: [u32; 11] = [
     5_000, 5_200, 5_400, 5_600, 5_800, 6_000, 6_200, 6_400, 6_600, 6_800, 7_000,
 ];
+
+/// The common rules that may be the first broken by a train with more than 700 m set to V, which breaks 22.
+pub const PAST_700_M: [u8; 8] = [15, 16, 17, 18, 19, 20, 21, 22];
 
 /// What stands beside the hauled vehicles set to V.
 #[derive(Clone, Copy, Debug, PartialEq, Eq)]
@@ -35,11 +38,16 @@ pub const BESIDE: [Beside; 5] = [
 /// The fewest vehicles that pass 700 m.
 const ENOUGH_IN_V: usize = 8;
 
-/// An edge: k about any bound, often with a margin that one percent decides.
+/// An edge: k about any bound, often with a margin that one percent decides; past the last one, with each rule that may be first.
 pub fn v_length(random: &mut Random, draft: &mut Draft) {
     let length = i64::from(random.pick(&BOUNDS)) + random.around();
     let beside = random.pick(&BESIDE);
-    stand(random, draft, length, beside);
+    if length > 7_000 {
+        let rule = random.pick(&PAST_700_M);
+        pass_700_m(random, draft, rule);
+    } else {
+        stand(random, draft, length, beside);
+    }
     if random.percent(60) {
         decide(random, draft);
     }
@@ -73,6 +81,31 @@ fn stand(random: &mut Random, draft: &mut Draft, length: i64, beside: Beside) {
         LENGTH,
         metres,
     );
+}
+
+/// Brings the length of the hauled vehicles set to V past 700 m, where this is the first common rule that the hauled part breaks.
+fn pass_700_m(random: &mut Random, draft: &mut Draft, rule: u8) {
+    let beside = match rule {
+        16 => Beside::InR,
+        19 | 20 => Beside::Isolated,
+        _ => random.pick(&[Beside::Nothing, Beside::InM, Beside::Working]),
+    };
+    for vehicle in &mut draft.hauled {
+        (vehicle.kind, vehicle.joined, vehicle.matrossow) = (WAGON, 1, 0);
+    }
+    stand(random, draft, 7_001, beside);
+    let hauled: i64 = draft.hauled.iter().map(LENGTH.get).sum();
+    let train = if rule == 21 { 7_401 } else { 7_400 };
+    aim(&mut draft.working, LENGTH, train - hauled);
+    let last = draft.hauled.len() - 1;
+    match rule {
+        15 => draft.hauled[last].kind = HAULED_ENGINE,
+        17 => draft.hauled[last].joined = 0,
+        18 => draft.hauled[last].matrossow = 1,
+        19 => draft.hauled.swap(0, 1),
+        20 => draft.hauled.swap(1, last),
+        _ => {}
+    }
 }
 
 fn fill_up(draft: &mut Draft, count: usize) {
@@ -117,7 +150,8 @@ fn load(random: &mut Random, draft: &mut Draft, beside: Beside) {
     }
 }
 
-/// A train at every bound, one below and one above, with each of what can stand beside; one of categories 1 to 3 is asked.
+/// A train at every bound, one below and one above, with each of what can stand beside, and one past 700 m for each common rule
+/// that it may break first; one of categories 1 to 3 is asked.
 pub fn swept_lengths(seed: u64) -> Vec<Draft> {
     let mut drafts = vec![];
     for bound in BOUNDS {
@@ -130,6 +164,13 @@ pub fn swept_lengths(seed: u64) -> Vec<Draft> {
                 drafts.push(draft);
             }
         }
+    }
+    for rule in PAST_700_M {
+        let mut random = Random::for_case(seed, drafts.len() as u64);
+        let mut draft = plain_train(&mut random, Size::Few);
+        pass_700_m(&mut random, &mut draft, rule);
+        decide(&mut random, &mut draft);
+        drafts.push(draft);
     }
     drafts
 }

@@ -1,7 +1,6 @@
 //! Rule 47 and bytes 10 to 12: braked masses that give a chosen margin exactly.
 
 use super::draft::{aim, Draft, BRAKED_M, BRAKED_V, LENGTH, MASS};
-use crate::category::deduction;
 use crate::random::Random;
 use crate::vehicle::{Vehicle, SET_TO_M, SET_TO_V};
 
@@ -92,7 +91,7 @@ impl Puzzle {
     fn new(draft: &Draft, category: usize) -> Puzzle {
         let facts = draft.facts();
         let (weight_m, kept) = match category {
-            1..=3 => (3, 100 - deduction(facts.hauled_length_v)),
+            1..=3 => (3, 100 - facts.k),
             _ => (4, 100),
         };
         let sum = |vehicles: &[Vehicle], setting: u8, value: fn(&Vehicle) -> i64| -> i64 {

@@ -1,7 +1,8 @@
 //! The mixture of calls that is compared: good, at boundaries, damaged and random.
 
 use super::accounts::{
-    account_of, any_account, bad_account, good_account, pair_at_ceiling, plausible, probed_account,
+    account_of, any_account, bad_account, good_account, longer_in_v, pair_at_ceiling, plausible,
+    probed_account,
 };
 use super::damage::{
     cut_short, damage_order, damage_records, flip_bytes, random_bytes, refused_train, sheet_room,
@@ -182,6 +183,7 @@ pub fn engines_call(random: &mut Random) -> Call {
     let wanted = some_refusals(random, refusals(Function::SheetOfAccount));
     let has = |number: u8| wanted.contains(&number);
     let draft = engines_and_hauled(random);
+    let hauled = account_beside(random, &draft, &wanted);
     let engines = engines_apart(random, draft.working, &wanted);
     let mut order = draft.order.write().to_vec();
     if has(4) {
@@ -189,7 +191,7 @@ pub fn engines_call(random: &mut Random) -> Call {
     }
     let inputs = Inputs::Engines {
         engines,
-        hauled: account_beside(random, &draft.hauled, &wanted),
+        hauled,
         order,
     };
     let rooms: &[usize] = if has(5) { &[0, 31] } else { &[32, 32, 33, 40] };
@@ -209,12 +211,15 @@ pub fn engines_apart(random: &mut Random, working: Vec<Vehicle>, wanted: &[u8]) 
 }
 
 /// The account beside them, of the hauled vehicles or any other, with refusals 7 and 14 where they are wanted.
-pub fn account_beside(random: &mut Random, hauled: &[Vehicle], wanted: &[u8]) -> Vec<u8> {
+pub fn account_beside(random: &mut Random, draft: &Draft, wanted: &[u8]) -> Vec<u8> {
     match random.below(20) {
         _ if wanted.contains(&7) => bad_account(random),
         _ if wanted.contains(&14) => empty_account(random),
-        0..8 => account_of(hauled).to_vec(),
-        8..14 => plausible(random).write().to_vec(),
+        0..7 => account_of(&draft.hauled).to_vec(),
+        7..12 => plausible(random).write().to_vec(),
+        12..14 => longer_in_v(random, &draft.working, &draft.order)
+            .write()
+            .to_vec(),
         14..16 => good_account(random).to_vec(),
         16..19 => probed_account(random),
         _ => any_account(random),

@@ -258,7 +258,7 @@ pub fn account_route_call(random: &mut Random) -> Call {
     let sections = some_sections(random, &draft);
     let hauled = match light && !wanted.contains(&7) && !wanted.contains(&14) {
         true => account_of(&draft.hauled).to_vec(),
-        false => account_beside(random, &draft.hauled, &wanted),
+        false => account_beside(random, &draft, &wanted),
     };
     let engines = engines_apart(random, draft.working, &wanted);
     let orders = spoilt_orders(random, &sections, &wanted);

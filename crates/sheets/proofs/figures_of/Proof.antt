@@ -2,11 +2,11 @@
 use mathlib.Core.Path.{ap, _∙_}
 use lib.ListN.{getD}
 use borrow.Author.Needs.{needs}
+use Rattle.categories.specs.Brakes.{marginFor, brakedOf}
+use Rattle.categories.specs.Categories.{percentageOf}
+use Rattle.categories.specs.declared.category.Category.{Category}
 use Rattle.rules.specs.declared.grant.Decision.{Decision}
-use Rattle.rules.specs.declared.category.Category.{Category}
 use Rattle.rules.specs.CrossBorder.{crossBorder}
-use Rattle.rules.specs.Brakes.{marginFor, brakedOf}
-use Rattle.rules.specs.Categories.{percentageOf}
 use Rattle.margin.specs.Margin.{tonnesOf, bytesOf}
 use Rattle.sheets.specs.Sheets.{figuresOf}
 use Rattle.sheets.proofs.Sheets.{upTo23, common-there}

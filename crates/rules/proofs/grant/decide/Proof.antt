@@ -4,10 +4,10 @@ use mathlib.Core.Path.{_≡_, ap, _∙_}
 use mathlib.Core.Bool.{true, false}
 use mathlib.Core.List.{[], _∷_}
 use borrow.Author.Needs.{needs}
+use Rattle.categories.specs.declared.category.Weigh.the-variants.{ThreeQuarters, Whole}
 use Rattle.rules.specs.Families.{stillOf, familyFirst}
 use Rattle.rules.specs.CrossBorder.{crossBorder}
 use Rattle.rules.specs.Grants.{offerOf, bestOf, offersFrom, grantedOf, decisionOf}
-use Rattle.rules.specs.declared.category.Weigh.the-variants.{ThreeQuarters, Whole}
 use Rattle.rules.specs.declared.grant.Offer.{Offer}
 use Rattle.rules.specs.declared.grant.Best.{Best}
 use Rattle.rules.specs.declared.grant.Decision.{Decision}
@@ -47,12 +47,12 @@ number-at-requires-2 c κs = search needs
 first-p : (c : tie.After-number-at2) → c .before .number-at .result ≡ familyFirst crossBorder false (c .before .before .before .before .args .f) (c .before .before .before .before .args .o)
 first-p c =
     let a = c .before .before .before .before .args in
-    c .before .number-at .ensures (stillOf false (a .f) (a .o)) (a .f) ∙ family-first false ThreeQuarters (a .f) (a .o) (c .before .before .before .family-of .result) (c .before .before .before .family-of .ensures)
+    c .before .number-at .ensures (stillOf false (a .o)) (a .f) ∙ family-first false ThreeQuarters (a .f) (a .o) (c .before .before .before .family-of .result) (c .before .before .before .family-of .ensures)
 
 first-g : (c : tie.After-number-at2) → c .number-at2 .result ≡ familyFirst crossBorder true (c .before .before .before .before .args .f) (c .before .before .before .before .args .o)
 first-g c =
     let a = c .before .before .before .before .args in
-    c .number-at2 .ensures (stillOf true (a .f) (a .o)) (a .f) ∙ family-first true Whole (a .f) (a .o) (c .before .before .family-of2 .result) (c .before .before .family-of2 .ensures)
+    c .number-at2 .ensures (stillOf true (a .o)) (a .f) ∙ family-first true Whole (a .f) (a .o) (c .before .before .family-of2 .result) (c .before .before .family-of2 .ensures)
 
 offered-requires : tie.Need-offered-requires
 offered-requires c κs = (c .before .before .before .family-of .ensures, first-p c)

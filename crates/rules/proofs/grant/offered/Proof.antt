@@ -2,8 +2,8 @@
 use Prim.Native.Nat.{ℕ, min}
 use mathlib.Core.Path.{ap, _∙_}
 use borrow.Author.Needs.{needs}
+use Rattle.categories.specs.Categories.{speedOf}
 use Rattle.rules.specs.Grants.{offerOf}
-use Rattle.rules.specs.Categories.{speedOf}
 use Rattle.rules.proofs.grant.offered.Statement.{statement}
 use Rattle.rules.proofs.grant.offered.Tie as tie
 

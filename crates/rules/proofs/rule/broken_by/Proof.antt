@@ -5,7 +5,7 @@ use mathlib.Core.Path.{ap, ap₂, _∙_}
 use lib.Dec.{ltb}
 use borrow.Author.Needs.{needs}
 use Rattle.lists.specs.Words.{_is_}
-use Rattle.rules.proofs.Rules.{broken-there}
+use Rattle.rules.proofs.Rules.{at30, at47, broken-there}
 use Rattle.rules.proofs.rule.broken_by.Statement.{statement}
 use Rattle.rules.proofs.rule.broken_by.Tie as tie
 
@@ -24,8 +24,8 @@ returns c =
     let a = s .args in
     let place = a .m .place in
     c .either2 .ensures
-    ∙ ap (cond (a .line is 0 && ltb 9 place) 30) (c .before .either .ensures)
-    ∙ ap₂ (λ (line : ℕ) (short : Bool). cond (line is 0 && ltb 9 place) 30 (cond (short && ltb 21 place) 47 (a .first))) (s .pre .1 .1) (c .before .before .before .is-short .ensures)
+    ∙ ap (cond (a .line is 0 && ltb at30 place) 30) (c .before .either .ensures)
+    ∙ ap₂ (λ (line : ℕ) (short : Bool). cond (line is 0 && ltb at30 place) 30 (cond (short && ltb at47 place) 47 (a .first))) (s .pre .1 .1) (c .before .before .before .is-short .ensures)
     ∙ broken-there (a .c) (a .f) (a .o) (a .m) (s .pre .0) (a .first) (s .pre .1 .0)
 
 pub broken-by-spec : {M : Type 1} → statement M

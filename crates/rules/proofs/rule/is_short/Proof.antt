@@ -1,7 +1,7 @@
 -- `rules::rule::is_short` meets its contract: the family's parts and k are the category's. Assumes nothing.
 use mir.Facts.{toZ-ofZ}
 use borrow.Author.Needs.{sfits-of, needs}
-use Rattle.rules.specs.Brakes.{marginFor}
+use Rattle.categories.specs.Brakes.{marginFor}
 use Rattle.rules.specs.Families.{familyOf}
 use Rattle.rules.proofs.rule.is_short.Statement.{statement}
 use Rattle.rules.proofs.rule.is_short.Tie as tie

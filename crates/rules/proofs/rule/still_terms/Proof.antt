@@ -10,13 +10,9 @@ most-engines-requires c κs = search needs
 lesser-requires : tie.Need-lesser-requires
 lesser-requires c κs = search needs
 
-begun-requires : tie.Need-begun-requires
-begun-requires c κs = search needs
-
 returns : tie.Need-returns
 unfolding stillOf
-returns c = rw (c .begun .ensures, c .before .lesser .ensures, c .before .before .most-engines .ensures)
+returns c = rw (c .lesser .ensures, c .before .most-engines .ensures)
 
 pub still-terms-spec : {M : Type 1} → statement M
-still-terms-spec =
-    tie.close (tie.spec most-engines-requires lesser-requires begun-requires returns)
+still-terms-spec = tie.close (tie.spec most-engines-requires lesser-requires returns)

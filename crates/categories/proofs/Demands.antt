@@ -1,0 +1,42 @@
+-- The categories: the theorems, over the definitions of specs/. Assumes nothing.
+use Prim.Native.Nat.{_≤_}
+use native.Mathlib.Omega.{arith}
+use mathlib.Core.Path.{_≡_, refl}
+use mathlib.Core.List.{List, [], _∷_, map}
+use lib.Signed.{_≤ℤ_}
+use Rattle.record.specs.declared.vehicle.Vehicle.{Vehicle}
+use Rattle.facts.specs.Facts.{factsOf}
+use Rattle.facts.specs.declared.Facts.{Facts}
+use Rattle.facts.proofs.Demands.{v-length-within}
+use Rattle.order.specs.declared.Order.{Order}
+use Rattle.categories.specs.Categories.{crossRows, speedOf}
+use Rattle.categories.specs.Brakes.{deductionOf, marginFor}
+use Rattle.categories.specs.WholeLength.{wholeDeductionOf, wholeMarginFor}
+use Rattle.categories.specs.declared.category.Category.{Category}
+use Rattle.categories.specs.declared.category.Weigh.{Weigh}
+use Rattle.categories.proofs.Deductions as deductions
+
+-- ---- the five categories, column by column of document 01's table
+pub category-table :
+    (map (λ (c : Category). c .number) crossRows ≡ 1 ∷ 2 ∷ 3 ∷ 4 ∷ 5 ∷ [])
+    × (map (λ (c : Category). c .speed) crossRows ≡ 120 ∷ 100 ∷ 100 ∷ 100 ∷ 90 ∷ [])
+    × (map (λ (c : Category). c .percentage) crossRows ≡ 77 ∷ 60 ∷ 60 ∷ 57 ∷ 50 ∷ [])
+    × (map (λ (c : Category). c .column) crossRows ≡ 0 ∷ 1 ∷ 2 ∷ 2 ∷ 3 ∷ [])
+category-table = (refl, refl, refl, refl)
+
+-- no line and no record gives a category more than its own speed
+pub own-speed-most : (c : Category) (f : Facts) (o : Order) → speedOf c f o ≤ c .speed
+unfolding speedOf
+own-speed-most c f o = omega arith
+
+-- ---- the length that k counts, against the whole hauled length
+-- where it is at most the whole, k has not grown
+pub k-not-grown : (w : Weigh) (f : Facts) → f .hauledVLength ≤ f .hauledLength → deductionOf w f ≤ wholeDeductionOf w f
+k-not-grown = deductions.k-not-grown
+
+-- so it has for no train, and for no train, category and order is the margin less than it was
+pub train-k-not-grown : (w : Weigh) (train : List Vehicle) → deductionOf w (factsOf train) ≤ wholeDeductionOf w (factsOf train)
+train-k-not-grown w train = deductions.k-not-grown w (factsOf train) (v-length-within train)
+
+pub train-margin-not-less : (c : Category) (train : List Vehicle) (o : Order) → wholeMarginFor c (factsOf train) o ≤ℤ marginFor c (factsOf train) o
+train-margin-not-less c train o = deductions.margin-not-less c (factsOf train) o (v-length-within train)

@@ -1,0 +1,4 @@
+pub mod Deductions
+pub mod Limits
+pub mod Demands
+pub mod Unique

@@ -1,0 +1,4 @@
+pub mod Categories
+pub mod Brakes
+pub mod WholeLength
+pub mod Limits
