@@ -46,11 +46,8 @@ module _ (f : Facts) (elsewhere : longerThanAll f ≡ false) where
   breaks-22 : (t : Terms) → rule46 t f .applies ≡ true → f .hauledLength above 7000 ≡ true
   breaks-22 t e = go (f .hauledLength atMost 7000) refl
     where
-      passed : 10 < begunOf (f .hauledVLength)
-      passed = ltb-true 10 (begunOf (f .hauledVLength)) (both (not (t .isg)) (begunOf (f .hauledVLength) above 10) e .1)
-
       set : f .hauledVLength above 7000 ≡ true
-      set = lt-ltb 7000 (f .hauledVLength) (omega (arith, passed))
+      set = lt-ltb 7000 (f .hauledVLength) (omega (arith, ltb-true _ (begunOf (f .hauledVLength)) (both (not (t .isg)) _ e .1)))
 
       go : (b : Bool) → f .hauledLength atMost 7000 ≡ b → f .hauledLength above 7000 ≡ true
       go true h = absurd (false≢true (sym elsewhere ∙ rw (set, h)))
