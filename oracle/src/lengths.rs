@@ -1,6 +1,5 @@
 //! What the length that k counts has met: each begun 20 m, and calls on which a wrong reading of k would show.
 
-use std::collections::BTreeMap;
 use std::fmt::Write;
 
 use self::Reading::{NotHeld, WagonsAlone, Whole, WithIsolated, WithM, WithR, WithWorking};
@@ -15,6 +14,7 @@ use crate::order::Order;
 use crate::route::{granted, sections};
 use crate::rules::common_rule;
 use crate::sheet::sheet;
+use crate::tally::Tally;
 use crate::vehicle::{
     Record, Vehicle, ISOLATED, SET_TO_M, SET_TO_R, SET_TO_V, WAGON, WORKING_ENGINE,
 };
@@ -221,7 +221,7 @@ impl Met {
 
 #[derive(Clone, Default)]
 pub struct Lengths {
-    counts: BTreeMap<(Function, Met), u64>,
+    tally: Tally<Met>,
 }
 
 impl Lengths {
@@ -237,15 +237,11 @@ impl Lengths {
         }
     }
 
-    fn met(&mut self, function: Function, met: Met) {
-        *self.counts.entry((function, met)).or_default() += 1;
-    }
-
     fn note_portion(&mut self, records: &[Record]) {
         let length_v = Account::of(records).length_v;
         for reading in OF_PORTIONS {
             if reading.of_records(records) != length_v {
-                self.met(Function::AccountOf, Met::Shows(reading));
+                self.tally.met(Function::AccountOf, Met::Shows(reading));
             }
         }
     }
@@ -268,7 +264,7 @@ impl Lengths {
                 (PAST_CEILING, sum == CEILING + 1),
             ];
             for (name, _) in others.into_iter().filter(|(_, holds)| *holds) {
-                self.met(Function::Join, Met::Other(name));
+                self.tally.met(Function::Join, Met::Other(name));
             }
         }
     }
@@ -284,11 +280,11 @@ impl Lengths {
                 continue;
             };
             if wrong != right {
-                self.met(function, Met::Shows(reading));
+                self.tally.met(function, Met::Shows(reading));
             }
             // Byte 1 of a sheet is the granted category.
             if is_sheet && wrong.1[1] != right.1[1] {
-                self.met(function, Met::Grants(reading));
+                self.tally.met(function, Met::Grants(reading));
             }
             if is_sheet && reading == NotHeld {
                 self.note_held(function, facts, &wrong.1, &right.1);
@@ -308,9 +304,9 @@ impl Lengths {
         for bound in BOUNDS {
             let above = i64::from(length_v) - i64::from(bound);
             if let above @ -1..=1 = above {
-                self.met(function, Met::Bound(bound, above as i8));
+                self.tally.met(function, Met::Bound(bound, above as i8));
                 if apart {
-                    self.met(function, Met::Apart(bound, above as i8));
+                    self.tally.met(function, Met::Apart(bound, above as i8));
                 }
             }
         }
@@ -320,11 +316,11 @@ impl Lengths {
     fn note_held(&mut self, function: Function, facts: &Facts, wrong: &[u8], right: &[u8]) {
         let braked = |sheet: &[u8]| sheet[24..28].to_vec();
         if facts.hauled_length_v > facts.hauled_length && braked(wrong) != braked(right) {
-            self.met(function, Met::Held(right[0]));
+            self.tally.met(function, Met::Held(right[0]));
         }
         for (category, rules) in (1..).zip(wrong[4..9].iter().zip(&right[4..9])) {
             if rules == (&47, &0) {
-                self.met(function, Met::Breaks47(category));
+                self.tally.met(function, Met::Breaks47(category));
             }
         }
     }
@@ -335,55 +331,35 @@ impl Lengths {
             return;
         };
         if account.length_v > account.length {
-            self.met(function, Met::Other(ABOVE_LENGTH));
+            self.tally.met(function, Met::Other(ABOVE_LENGTH));
         }
         if account.length_v > 0 && account.axles_v == 0 {
-            self.met(function, Met::Other(WITHOUT_AXLES));
+            self.tally.met(function, Met::Other(WITHOUT_AXLES));
         }
     }
 
     pub fn add(&mut self, other: &Lengths) {
-        for (met, more) in &other.counts {
-            *self.counts.entry(*met).or_default() += more;
-        }
-    }
-
-    fn count(&self, function: Function, met: Met) -> u64 {
-        self.counts.get(&(function, met)).copied().unwrap_or(0)
+        self.tally.add(&other.tally);
     }
 
     pub fn missing(&self, scope: Scope) -> Vec<String> {
-        let mut missing = vec![];
-        for &function in scope.functions() {
-            let unmet = demanded(function).into_iter();
-            let unmet = unmet.filter(|&met| self.count(function, met) == 0);
-            missing.extend(unmet.map(|met| format!("{} {met:?}", function.name())));
-        }
-        missing
+        let missing = self.tally.missing(scope, demanded).into_iter();
+        let text = |(function, met): (Function, Met)| format!("{} {met:?}", function.name());
+        missing.map(text).collect()
     }
 
     /// For each kind how many different ones there are, how often they came and how often the rarest.
     pub fn table(&self, scope: Scope) -> String {
         let mut text = String::from("the length that k counts: how many such, all, the rarest\n");
-        for &function in scope.functions() {
-            let mut kinds: Vec<(String, Vec<u64>)> = vec![];
-            for met in demanded(function) {
-                let (kind, count) = (met.kind(), self.count(function, met));
-                match kinds.iter_mut().find(|(one, _)| *one == kind) {
-                    Some((_, counts)) => counts.push(count),
-                    None => kinds.push((kind, vec![count])),
-                }
-            }
-            for (kind, counts) in kinds {
-                let all: u64 = counts.iter().sum();
-                let rarest = counts.iter().min().copied().unwrap_or(0);
-                let _ = writeln!(
-                    text,
-                    "  {:<16} {kind:<58} {:>3} {all:>9} {rarest:>9}",
-                    function.name(),
-                    counts.len()
-                );
-            }
+        for (function, kind, counts) in self.tally.kinds(scope, demanded, Met::kind) {
+            let all: u64 = counts.iter().sum();
+            let rarest = counts.iter().min().copied().unwrap_or(0);
+            let _ = writeln!(
+                text,
+                "  {:<16} {kind:<58} {:>3} {all:>9} {rarest:>9}",
+                function.name(),
+                counts.len()
+            );
         }
         text
     }

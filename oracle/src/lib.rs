@@ -25,5 +25,6 @@ pub mod routes;
 pub mod rules;
 pub mod sheet;
 pub mod speed;
+pub mod tally;
 pub mod vehicle;
 pub mod withdrawal;

@@ -1,6 +1,5 @@
 //! What withdrawing 46 has met: lists, whose sheets it leaves as they were, and accounts that no list has.
 
-use std::collections::BTreeMap;
 use std::fmt::Write;
 
 use crate::account::{Account, ACCOUNT};
@@ -13,6 +12,7 @@ use crate::order::{Order, ORDER};
 use crate::route::granted;
 use crate::rules::common_rule;
 use crate::sheet::{sheet, SHEET};
+use crate::tally::Tally;
 
 /// Where alone a sheet may change: an account that no list has, with more than 700 m set to V in a length of at most 700 m.
 fn may_change(inputs: &Inputs, facts: &Facts) -> bool {
@@ -100,20 +100,21 @@ fn demanded(function: Function) -> Vec<Met> {
 }
 
 impl Met {
-    fn kind(self) -> &'static str {
-        match self {
+    fn kind(self) -> String {
+        let kind = match self {
             Met::Before(_) => "V length above 7,000 in the length, by the first common rule",
             Met::About(_) => "V length about 7,000 in a length of at most 7,000",
             Met::Instead(_, 0) => "no rule where 46 stood, by category",
             Met::Instead(..) => "47 where 46 stood, by category",
             Met::Granted(_) => "granted another than under the former list, by the asked one",
-        }
+        };
+        kind.to_owned()
     }
 }
 
 #[derive(Clone, Default)]
 pub struct Withdrawal {
-    counts: BTreeMap<(Function, Met), u64>,
+    tally: Tally<Met>,
 }
 
 impl Withdrawal {
@@ -123,12 +124,12 @@ impl Withdrawal {
         let common = common_rule(facts);
         let (length, length_v) = (facts.hauled_length, facts.hauled_length_v);
         if length_v <= length && breaks_46(facts) {
-            self.met(function, Met::Before(common));
+            self.tally.met(function, Met::Before(common));
         }
         if length <= 7_000 && common == 0 {
             let above = i64::from(length_v) - 7_000;
             if above.abs() <= 1 {
-                self.met(function, Met::About(above));
+                self.tally.met(function, Met::About(above));
             }
         }
         if may_change(inputs, facts) {
@@ -141,55 +142,33 @@ impl Withdrawal {
             let (old, new) = (former_sheet(facts, order), sheet(facts, order));
             for (category, (&was, &is)) in (1..).zip(old[4..9].iter().zip(&new[4..9])) {
                 if was == 46 {
-                    self.met(function, Met::Instead(category, is));
+                    self.tally.met(function, Met::Instead(category, is));
                 }
             }
         }
         if former_route(facts, orders).category != granted(facts, orders).category {
-            self.met(function, Met::Granted(orders[0].asked));
+            self.tally.met(function, Met::Granted(orders[0].asked));
         }
-    }
-
-    fn met(&mut self, function: Function, met: Met) {
-        *self.counts.entry((function, met)).or_default() += 1;
     }
 
     pub fn add(&mut self, other: &Withdrawal) {
-        for (met, more) in &other.counts {
-            *self.counts.entry(*met).or_default() += more;
-        }
-    }
-
-    fn count(&self, function: Function, met: Met) -> u64 {
-        self.counts.get(&(function, met)).copied().unwrap_or(0)
+        self.tally.add(&other.tally);
     }
 
     pub fn missing(&self, scope: Scope) -> Vec<String> {
-        let mut missing = vec![];
-        for &function in scope.functions() {
-            let unmet = demanded(function).into_iter();
-            let unmet = unmet.filter(|&met| self.count(function, met) == 0);
-            missing.extend(unmet.map(|met| format!("{} without 46: {met:?}", function.name())));
-        }
-        missing
+        let missing = self.tally.missing(scope, demanded).into_iter();
+        let text =
+            |(function, met): (Function, Met)| format!("{} without 46: {met:?}", function.name());
+        missing.map(text).collect()
     }
 
     /// For each kind how often each came.
     pub fn table(&self, scope: Scope) -> String {
         let mut text = String::from("46 withdrawn\n");
-        for &function in scope.functions() {
-            let mut kinds: Vec<(&str, Vec<String>)> = vec![];
-            for met in demanded(function) {
-                let count = self.count(function, met).to_string();
-                match kinds.iter_mut().find(|(kind, _)| *kind == met.kind()) {
-                    Some((_, counts)) => counts.push(count),
-                    None => kinds.push((met.kind(), vec![count])),
-                }
-            }
-            for (kind, counts) in kinds {
-                let name = function.name();
-                let _ = writeln!(text, "  {name:<16} {kind:<63} {}", counts.join(" "));
-            }
+        for (function, kind, counts) in self.tally.kinds(scope, demanded, Met::kind) {
+            let counts: Vec<String> = counts.iter().map(u64::to_string).collect();
+            let name = function.name();
+            let _ = writeln!(text, "  {name:<16} {kind:<63} {}", counts.join(" "));
         }
         text
     }
