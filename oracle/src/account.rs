@@ -34,6 +34,12 @@ pub struct Account {
     pub first: [u8; 5],
     /// Of records set to V, for the length deduction.
     pub length_v: u32,
+    /// M masses of hauled engines set to M.
+    pub engines_m: u32,
+    /// V masses of wagons set to M.
+    pub wagons_v: u32,
+    /// A hauled engine is not set to M.
+    pub engine_not_in_m: bool,
 }
 
 impl Account {
@@ -59,6 +65,9 @@ impl Account {
         slowest: 200,
         first: [NO_SETTING; 5],
         length_v: 0,
+        engines_m: 0,
+        wagons_v: 0,
+        engine_not_in_m: false,
     };
 
     /// The account of good hauled records.
@@ -98,21 +107,30 @@ impl Account {
                 self.axles_v += u32::from(vehicle.axles);
                 self.length_v += u32::from(vehicle.length);
             }
-            SET_TO_M => {
-                self.braked_m += u32::from(vehicle.braked_m);
-                self.set_to_m += 1;
-            }
+            SET_TO_M => self.count_in_m(vehicle),
             SET_TO_R => self.rule_16 = true,
             _ => self.isolated += 1,
         }
         if vehicle.kind == HAULED_ENGINE {
             self.engines += 1;
             self.engine_behind_wagon |= wagon_before;
+            self.engine_not_in_m |= vehicle.setting != SET_TO_M;
         }
         self.d_loads += u32::from(vehicle.d_load);
         self.rule_17 |= vehicle.joined == 0;
         self.rule_18 |= breaks_rule_18(vehicle);
         self.slowest = self.slowest.min(u32::from(vehicle.speed));
+    }
+
+    /// What a record set to M adds besides.
+    fn count_in_m(&mut self, vehicle: &Vehicle) {
+        self.set_to_m += 1;
+        self.braked_m += u32::from(vehicle.braked_m);
+        if vehicle.kind == HAULED_ENGINE {
+            self.engines_m += u32::from(vehicle.braked_m);
+        } else {
+            self.wagons_v += u32::from(vehicle.braked_v);
+        }
     }
 
     /// The account of two neighbours, the front one `self`; refusal 2 where a figure passes its ceiling.
@@ -141,6 +159,9 @@ impl Account {
             slowest: self.slowest.min(right.slowest),
             first: first_settings(self, right),
             length_v: self.length_v + right.length_v,
+            engines_m: self.engines_m + right.engines_m,
+            wagons_v: self.wagons_v + right.wagons_v,
+            engine_not_in_m: self.engine_not_in_m || right.engine_not_in_m,
         };
         demand(joined.is_within(), 2)?;
         Ok(joined)
@@ -159,7 +180,13 @@ impl Account {
             self.longest,
             self.slowest,
         ];
-        let masses = [self.mass, self.braked_v, self.braked_m];
+        let masses = [
+            self.mass,
+            self.braked_v,
+            self.braked_m,
+            self.engines_m,
+            self.wagons_v,
+        ];
         hundreds.iter().all(|&figure| figure <= 200)
             && masses.iter().all(|&figure| figure <= 500_000)
             && self.length <= 200_000
@@ -197,9 +224,12 @@ impl Account {
             slowest: figure(60),
             first: [bytes[64], bytes[65], bytes[66], bytes[67], bytes[68]],
             length_v: figure(69),
+            engines_m: figure(73),
+            wagons_v: figure(77),
+            engine_not_in_m: bytes[81] == 1,
         };
-        let marks = bytes[56..60].iter().all(|&mark| mark <= 1);
-        let unused = bytes[73..].iter().all(|&byte| byte == 0);
+        let marks = bytes[56..60].iter().all(|&mark| mark <= 1) && bytes[81] <= 1;
+        let unused = bytes[82..].iter().all(|&byte| byte == 0);
         (marks && unused && account.is_within()).then_some(account)
     }
 
@@ -232,6 +262,9 @@ impl Account {
         bytes[60..64].copy_from_slice(&self.slowest.to_le_bytes());
         bytes[64..69].copy_from_slice(&self.first);
         bytes[69..73].copy_from_slice(&self.length_v.to_le_bytes());
+        bytes[73..77].copy_from_slice(&self.engines_m.to_le_bytes());
+        bytes[77..81].copy_from_slice(&self.wagons_v.to_le_bytes());
+        bytes[81] = u8::from(self.engine_not_in_m);
         bytes
     }
 }
@@ -338,6 +371,63 @@ mod tests {
         assert_eq!(Account::read(&with(200_001).write()), None);
     }
 
+    /// Wagons of V 60 and M 50, engines of V 90 and M 70.
+    #[test]
+    fn engines_and_wagons_set_to_m_are_told_apart() {
+        let engine = |setting| {
+            let engine = Vehicle {
+                kind: HAULED_ENGINE,
+                braked_v: 90,
+                braked_m: 70,
+                ..Vehicle::read(&wagon(setting))
+            };
+            engine.write()
+        };
+        let figures = |records: &[Record]| {
+            let account = Account::of(records);
+            let Account {
+                engines_m,
+                wagons_v,
+                engine_not_in_m,
+                ..
+            } = account;
+            assert_eq!(account.write()[73..77], engines_m.to_le_bytes());
+            assert_eq!(account.write()[77..81], wagons_v.to_le_bytes());
+            assert_eq!(account.write()[81], u8::from(engine_not_in_m));
+            (engines_m, wagons_v, engine_not_in_m)
+        };
+        assert_eq!(figures(&[]), (0, 0, false));
+        assert_eq!(figures(&wagons(&[0, 1, 2, 3, 1])), (0, 120, false));
+        assert_eq!(figures(&[engine(1), engine(1), wagon(1)]), (140, 60, false));
+        for setting in [0, 2, 3] {
+            let hauled = [engine(1), engine(setting), wagon(1), wagon(2)];
+            assert_eq!(figures(&hauled), (70, 60, true), "{setting}");
+        }
+    }
+
+    #[test]
+    fn the_domestic_figures_join_as_sums_and_mark() {
+        let with = |engines_m, wagons_v, engine_not_in_m| Account {
+            engines_m,
+            wagons_v,
+            engine_not_in_m,
+            ..Account::EMPTY
+        };
+        let most = with(300_000, 200_000, false).join(&with(200_000, 300_000, true));
+        assert_eq!(most, Ok(with(500_000, 500_000, true)));
+        for (engines_m, wagons_v) in [(500_001, 0), (0, 500_001)] {
+            let past = with(engines_m, wagons_v, false);
+            assert_eq!(Account::read(&past.write()), None);
+            let one = with(engines_m.min(1), wagons_v.min(1), false);
+            let rest = with(
+                engines_m.saturating_sub(1),
+                wagons_v.saturating_sub(1),
+                false,
+            );
+            assert_eq!(one.join(&rest).unwrap_err().number, 2);
+        }
+    }
+
     #[test]
     fn an_account_keeps_its_bytes() {
         let account = Account::of(&wagons(&[0, 1, 2, 3, 1, 2]));
@@ -359,7 +449,7 @@ mod tests {
 
     #[test]
     fn a_mark_of_2_and_an_unused_byte_are_no_account() {
-        for at in (56..60).chain(73..128) {
+        for at in (56..60).chain(81..128) {
             let mut bytes = Account::EMPTY.write();
             bytes[at] = 2;
             assert_eq!(Account::read(&bytes), None, "{at}");

@@ -1,11 +1,11 @@
 //! One call of one function, the same for the model and for the library.
 
 use crate::account::{Account, ACCOUNT};
+use crate::book::Book;
 use crate::calls;
 use crate::facts::Facts;
 use crate::line::hex;
 use crate::order::ORDER;
-use crate::sheet::SHEET;
 use crate::vehicle::{is_working, VEHICLE};
 
 /// Something that has the seven functions.
@@ -149,6 +149,38 @@ pub enum Inputs {
 }
 
 impl Inputs {
+    /// What a function is lent to read, in its order.
+    pub fn parts(&self) -> Vec<(&'static str, &[u8])> {
+        match self {
+            Inputs::Train { vehicles, order } => vec![("vehicles", vehicles), ("order", order)],
+            Inputs::Portion { portion } => vec![("portion", portion)],
+            Inputs::Accounts { left, right } => vec![("left", left), ("right", right)],
+            Inputs::Engines {
+                engines,
+                hauled,
+                order,
+            } => vec![("engines", engines), ("hauled", hauled), ("order", order)],
+            Inputs::Portions { front, back } => vec![("front", front), ("back", back)],
+            Inputs::TrainRoute { vehicles, orders } => {
+                vec![("vehicles", vehicles), ("orders", orders)]
+            }
+            Inputs::AccountRoute {
+                engines,
+                hauled,
+                orders,
+            } => vec![("engines", engines), ("hauled", hauled), ("orders", orders)],
+        }
+    }
+
+    /// The order of a sheet, or those of a route.
+    pub fn orders(&self) -> &[u8] {
+        match self {
+            Inputs::Train { order, .. } | Inputs::Engines { order, .. } => order,
+            Inputs::TrainRoute { orders, .. } | Inputs::AccountRoute { orders, .. } => orders,
+            _ => &[],
+        }
+    }
+
     /// The facts of a train, or of engines with an account, that is not refused.
     pub fn facts(&self) -> Option<Facts> {
         match self {
@@ -200,7 +232,7 @@ impl Call {
     /// How many bytes it writes if it is done: of a route as many as there are sections.
     pub fn writes(&self) -> usize {
         match &self.inputs {
-            Inputs::Train { .. } | Inputs::Engines { .. } => SHEET,
+            Inputs::Train { order, .. } | Inputs::Engines { order, .. } => Book::of(order).sheet(),
             Inputs::Portion { .. } | Inputs::Accounts { .. } => ACCOUNT,
             Inputs::Portions { .. } => VEHICLE,
             Inputs::TrainRoute { orders, .. } | Inputs::AccountRoute { orders, .. } => {
@@ -243,28 +275,8 @@ impl Call {
 
     /// The inputs in hex, one line each.
     pub fn describe(&self) -> String {
-        let inputs: &[(&str, &[u8])] = match &self.inputs {
-            Inputs::Train { vehicles, order } => &[("vehicles", vehicles), ("order", order)],
-            Inputs::Portion { portion } => &[("portion", portion)],
-            Inputs::Accounts { left, right } => &[("left", left), ("right", right)],
-            Inputs::Engines {
-                engines,
-                hauled,
-                order,
-            } => &[("engines", engines), ("hauled", hauled), ("order", order)],
-            Inputs::Portions { front, back } => &[("front", front), ("back", back)],
-            Inputs::TrainRoute { vehicles, orders } => {
-                &[("vehicles", vehicles), ("orders", orders)]
-            }
-            Inputs::AccountRoute {
-                engines,
-                hauled,
-                orders,
-            } => &[("engines", engines), ("hauled", hauled), ("orders", orders)],
-        };
-        let lines = inputs
-            .iter()
-            .map(|(name, bytes)| format!("  {name} {}\n", hex(bytes)));
+        let inputs = self.inputs.parts().into_iter();
+        let lines = inputs.map(|(name, bytes)| format!("  {name} {}\n", hex(bytes)));
         lines.collect::<String>()
             + &format!("  lent {} bytes, filled {:02x}\n", self.room, self.fill)
     }

@@ -5,7 +5,7 @@ use crate::answer::{answer, demand, refusal, route_answer, Refusal};
 use crate::facts::Facts;
 use crate::order::Order;
 use crate::route::{granted, sections};
-use crate::sheet::{sheet, SHEET};
+use crate::sheet::sheet;
 use crate::vehicle::{first_bad, is_working, Record, MOST_RECORDS, VEHICLE};
 
 /// The sheet of a whole train. Refusals in order: 1, 2, 3, 4, 5, 11, 12, 13, 14.
@@ -52,8 +52,8 @@ pub fn holds_the_speed(front: &[u8], back: &[u8], room: &mut [u8]) -> usize {
 fn train(vehicles: &[u8], order: &[u8], room: &mut [u8]) -> Result<(), Refusal> {
     let records = train_records(vehicles)?;
     let order = Order::read(order).ok_or(refusal(4))?;
-    let room = lent::<SHEET>(room)?;
-    *room = sheet(&train_facts(records)?, &order);
+    let room = lent_for(room, order.book.sheet())?;
+    room.copy_from_slice(&sheet(&train_facts(records)?, &order));
     Ok(())
 }
 
@@ -94,7 +94,7 @@ fn portion_account(portion: &[u8], room: &mut [u8]) -> Result<(), Refusal> {
     demand(records.len() <= MOST_RECORDS, 2)?;
     all_good(records)?;
     demand(!records.iter().any(is_working), 6)?;
-    *lent::<ACCOUNT>(room)? = Account::of(records).write();
+    lent_for(room, ACCOUNT)?.copy_from_slice(&Account::of(records).write());
     Ok(())
 }
 
@@ -102,15 +102,15 @@ fn joined(left: &[u8], right: &[u8], room: &mut [u8]) -> Result<(), Refusal> {
     let left = Account::read(left).ok_or(refusal(7))?;
     let right = Account::read(right).ok_or(refusal(7))?;
     let account = left.join(&right)?;
-    *lent::<ACCOUNT>(room)? = account.write();
+    lent_for(room, ACCOUNT)?.copy_from_slice(&account.write());
     Ok(())
 }
 
 fn judged(engines: &[u8], hauled: &[u8], order: &[u8], room: &mut [u8]) -> Result<(), Refusal> {
     let (working, hauled) = engines_and_account(engines, hauled)?;
     let order = Order::read(order).ok_or(refusal(4))?;
-    let room = lent::<SHEET>(room)?;
-    *room = sheet(&account_facts(working, &hauled)?, &order);
+    let room = lent_for(room, order.book.sheet())?;
+    room.copy_from_slice(&sheet(&account_facts(working, &hauled)?, &order));
     Ok(())
 }
 
@@ -178,13 +178,8 @@ fn all_good(records: &[Record]) -> Result<(), Refusal> {
 }
 
 /// The first bytes of a lent buffer that is long enough.
-fn lent<const N: usize>(room: &mut [u8]) -> Result<&mut [u8; N], Refusal> {
-    room.first_chunk_mut().ok_or(refusal(5))
-}
-
-/// A byte for each section.
-fn lent_for(room: &mut [u8], sections: usize) -> Result<&mut [u8], Refusal> {
-    room.get_mut(..sections).ok_or(refusal(5))
+fn lent_for(room: &mut [u8], bytes: usize) -> Result<&mut [u8], Refusal> {
+    room.get_mut(..bytes).ok_or(refusal(5))
 }
 
 #[cfg(test)]
@@ -192,13 +187,14 @@ mod tests {
     use super::*;
     use crate::answer::parts;
     use crate::gen::cases::{case_a, worked_sections};
+    use crate::gen::domestic_cases::b;
     use crate::gen::draft::{bytes, Draft};
     use crate::gen::routes::written;
     use crate::line::hex;
     use crate::vehicle::{Vehicle, ISOLATED, SET_TO_M, SET_TO_R};
 
-    fn sheet_of(draft: &Draft) -> [u8; SHEET] {
-        let mut room = [0; SHEET];
+    fn sheet_of(draft: &Draft) -> [u8; 32] {
+        let mut room = [0; 32];
         let answer = sheet_of_train(&draft.vehicles(), &draft.order.write(), &mut room);
         assert_eq!(answer, 0);
         room
@@ -229,18 +225,18 @@ mod tests {
         assert_eq!(account_of(&bytes(&draft.hauled), &mut account), 0);
         account[60] = 0;
         let engines = bytes(&draft.working);
-        let mut room = [9; SHEET];
+        let mut room = [9; 32];
         let answer = sheet_of_account(&engines, &account, &draft.order.write(), &mut room);
         assert_eq!((answer, &room[..3]), (0, &[1, 1, 0][..]));
     }
 
     /// Case A's engine beside its account with other figures; 600.0 t are braked.
-    fn sheet_beside(change: impl Fn(&mut Account)) -> [u8; SHEET] {
+    fn sheet_beside(change: impl Fn(&mut Account)) -> [u8; 32] {
         let draft = case_a();
         let mut account = Account::of(bytes(&draft.hauled).as_chunks().0);
         change(&mut account);
         let (engines, order) = (bytes(&draft.working), draft.order.write());
-        let mut room = [9; SHEET];
+        let mut room = [9; 32];
         let answer = sheet_of_account(&engines, &account.write(), &order, &mut room);
         assert_eq!(answer, 0);
         room
@@ -429,6 +425,62 @@ mod tests {
         assert_eq!(answer(&orders[..1_535]), 4);
         orders[5] = 6;
         assert_eq!(answer(&orders), 4);
+    }
+
+    /// ME140's slowest section has 80, ME120's 90, ME100's and MA100's 100; the third section has no column from MA100 on, so that
+    /// MA100 breaks 61 there, and ME100 takes its own.
+    #[test]
+    fn a_domestic_route_goes_by_its_own_columns() {
+        let draft = b();
+        let section = |me140, limits| Order {
+            me140,
+            limits,
+            ..draft.order
+        };
+        let sections = [
+            section(140, [120, 100, 100, 90, 80]),
+            section(80, [90, 100, 100, 100, 100]),
+            section(140, [0, 100, 0, 0, 0]),
+        ];
+        assert_eq!(route_of(&draft, &sections), (3, vec![100, 100, 100]));
+        let alone = sections.map(|section| route_of(&draft, &[section]).0);
+        assert_eq!(alone, [1, 3, 1]);
+    }
+
+    #[test]
+    fn one_section_s_limits_take_all_domestic_categories() {
+        let draft = b();
+        for (limit, granted) in [(6_000, (1, vec![140; 2])), (5_999, (0, vec![0; 2]))] {
+            let [mut coupling, mut admissible] = [[draft.order; 2]; 2];
+            coupling[1].coupling = limit;
+            admissible[0].admissible = limit;
+            assert_eq!(route_of(&draft, &coupling), granted, "{limit}");
+            assert_eq!(route_of(&draft, &admissible), granted, "{limit}");
+        }
+    }
+
+    /// The first section that has a field out of range, another asked category or another book, whichever it is.
+    #[test]
+    fn a_section_of_another_book_is_refused_with_its_place() {
+        let vehicles = case_a().vehicles();
+        let answer =
+            |orders: &[[u8; 24]]| route_of_train(&vehicles, orders.as_flattened(), &mut [0; 64]);
+        let [cross_border, domestic] = [case_a().order, b().order].map(|order| order.write());
+        for (first, other) in [(cross_border, domestic), (domestic, cross_border)] {
+            assert!(answer(&[first; 64]).is_multiple_of(256));
+            for place in 1..64 {
+                let mut orders = [first; 64];
+                orders[place] = other;
+                assert_eq!(answer(&orders), 4 + 256 * place as u64, "{place}");
+            }
+            let mut orders = [first, first, other, first];
+            orders[3][4] = 201;
+            assert_eq!(answer(&orders), 4 + 2 * 256);
+            orders[1][5] = 2;
+            assert_eq!(answer(&orders), 4 + 256);
+            orders[0][7] = 2;
+            assert_eq!(answer(&orders), 4);
+        }
     }
 
     #[test]

@@ -5,11 +5,12 @@ use std::sync::atomic::{AtomicU64, Ordering};
 
 use crate::account::ACCOUNT;
 use crate::answer::parts;
+use crate::book::{Book, BOOKS};
 use crate::call::{Call, Inputs, Model, Side, BUFFER};
 use crate::coverage::Coverage;
 use crate::gen::draft::bytes;
 use crate::gen::mixture::{
-    cut, engines_call, join_call, portion_call, speed_call, train_call, Cut,
+    cut, engines_call, join_call, order_call, portion_call, speed_call, train_call, Cut,
 };
 use crate::gen::numbers::{case_number, seated, two_engines};
 use crate::gen::routes::{account_route_call, route_call, some_sections, swept_journey, written};
@@ -24,7 +25,7 @@ use crate::withdrawal::is_as_before;
 /// Differences that are written out; the others are only counted.
 const SHOWN: usize = 5;
 
-pub const KINDS: [&str; 10] = [
+pub const KINDS: [&str; 19] = [
     "whole trains",
     "portions",
     "joins",
@@ -35,7 +36,19 @@ pub const KINDS: [&str; 10] = [
     "routes from an account",
     "routes of cut lists",
     "vehicle numbers",
+    "domestic whole trains",
+    "domestic portions",
+    "domestic joins",
+    "domestic cut lists",
+    "domestic engines",
+    "domestic speeds",
+    "domestic train routes",
+    "domestic account routes",
+    "domestic cut routes",
 ];
+
+/// Where those of the domestic book begin; they stand in the same order.
+const DOMESTIC_KINDS: usize = 10;
 
 #[derive(Clone, Default)]
 pub struct Report {
@@ -52,7 +65,13 @@ impl Report {
     }
 
     pub fn routes(&self) -> u64 {
-        self.kinds[6..9].iter().sum()
+        let of_books = [&self.kinds[6..9], &self.kinds[DOMESTIC_KINDS + 6..]];
+        of_books.into_iter().flatten().sum()
+    }
+
+    /// Those of the domestic book.
+    pub fn domestic(&self) -> u64 {
+        self.kinds[DOMESTIC_KINDS..].iter().sum()
     }
 
     /// Counts a case that has something wrong, and writes out the first of it.
@@ -78,13 +97,46 @@ impl Report {
 }
 
 /// Every so manieth route is one of those that are swept.
-const SWEPT_EACH: u64 = 4;
+fn swept_each(book: Book) -> u64 {
+    match book {
+        Book::CrossBorder => 4,
+        Book::Domestic => 2,
+    }
+}
 
-/// Set the seeds of routes and of numbers apart from that of trains.
+/// Set the seeds of routes, of numbers and of domestic cases apart from that of trains.
 const ROUTES: u64 = 0x0064_0064_0064_0064;
 const NUMBERS: u64 = 0x0012_0012_0012_0012;
+const DOMESTIC: u64 = 0x0006_0006_0006_0006;
 
-/// A run over cases by their index; joins, routes and numbers have seeds of their own.
+/// How many cases of each sort a run has: trains, joins and routes of both books, and vehicle numbers.
+#[derive(Clone, Copy, Debug, Default, PartialEq, Eq)]
+pub struct Sizes {
+    pub trains: [u64; 2],
+    pub joins: [u64; 2],
+    pub routes: [u64; 2],
+    pub numbers: u64,
+}
+
+impl Sizes {
+    /// Trains, joins, routes and numbers, then domestic trains, joins and routes.
+    pub fn of(counts: [u64; 7]) -> Sizes {
+        let [trains, joins, routes, numbers, more_trains, more_joins, more_routes] = counts;
+        Sizes {
+            trains: [trains, more_trains],
+            joins: [joins, more_joins],
+            routes: [routes, more_routes],
+            numbers,
+        }
+    }
+
+    pub fn cases(&self) -> u64 {
+        let of_books = [self.trains, self.joins, self.routes];
+        of_books.as_flattened().iter().sum::<u64>() + self.numbers
+    }
+}
+
+/// A run over cases by their index; joins, routes and numbers have seeds of their own, and so has the domestic book.
 pub struct Run<'a, S: Side> {
     pub library: &'a S,
     pub seed: u64,
@@ -92,37 +144,21 @@ pub struct Run<'a, S: Side> {
 }
 
 impl<S: Side> Run<'_, S> {
-    pub fn cases(
-        &self,
-        trains: impl Iterator<Item = u64>,
-        joins: impl Iterator<Item = u64>,
-        routes: impl Iterator<Item = u64>,
-        numbers: impl Iterator<Item = u64>,
-    ) -> Report {
+    pub fn cases(&self, sizes: &Sizes) -> Report {
+        self.every(sizes, 0, 1)
+    }
+
+    /// The cases whose index leaves this rest, so that several threads can share a run.
+    pub fn every(&self, sizes: &Sizes, rest: usize, step: usize) -> Report {
+        let some = |end: u64| (0..end).skip(rest).step_by(step);
         let mut report = Report::default();
-        for index in trains {
-            let mut random = Random::for_case(self.seed, index);
-            let mut case = Case::new(self.library, &mut report);
-            case.check(&train_call(&mut random, Size::Any));
-            let wrong = case.wrong;
-            self.close(&mut report, 0, "train", index, wrong);
+        for book in BOOKS {
+            let of = usize::from(book.byte());
+            self.trains(&mut report, book, some(sizes.trains[of]));
+            self.joins(&mut report, book, some(sizes.joins[of]));
+            self.routes(&mut report, book, some(sizes.routes[of]));
         }
-        for index in joins {
-            let mut random = Random::for_case(!self.seed, index);
-            let mut case = Case::new(self.library, &mut report);
-            let kind = case.join_case(&mut random);
-            let wrong = case.wrong;
-            self.close(&mut report, kind, "join", index, wrong);
-        }
-        let swept = swept();
-        for index in routes {
-            let mut random = Random::for_case(self.seed ^ ROUTES, index);
-            let mut case = Case::new(self.library, &mut report);
-            let kind = case.route_case(&mut random, &swept, index);
-            let wrong = case.wrong;
-            self.close(&mut report, kind, "route", index, wrong);
-        }
-        for index in numbers {
+        for index in some(sizes.numbers) {
             let mut random = Random::for_case(self.seed ^ NUMBERS, index);
             let mut case = Case::new(self.library, &mut report);
             case.number_case(&mut random, index);
@@ -132,11 +168,94 @@ impl<S: Side> Run<'_, S> {
         report
     }
 
+    fn seed(&self, book: Book) -> u64 {
+        match book {
+            Book::CrossBorder => self.seed,
+            Book::Domestic => self.seed ^ DOMESTIC,
+        }
+    }
+
+    pub(crate) fn trains(
+        &self,
+        report: &mut Report,
+        book: Book,
+        indices: impl Iterator<Item = u64>,
+    ) {
+        for index in indices {
+            let mut random = Random::for_case(self.seed(book), index);
+            let mut case = Case::new(self.library, report);
+            case.check(&match order_turn(book, index) {
+                Some(turn) => order_call(&mut random, turn, false),
+                None => train_call(&mut random, book, Size::Any),
+            });
+            let wrong = case.wrong;
+            self.close(report, kind(book, 0), "train", index, wrong);
+        }
+    }
+
+    pub(crate) fn joins(
+        &self,
+        report: &mut Report,
+        book: Book,
+        indices: impl Iterator<Item = u64>,
+    ) {
+        for index in indices {
+            let mut random = Random::for_case(!self.seed(book), index);
+            let mut case = Case::new(self.library, report);
+            let of = match order_turn(book, index) {
+                Some(turn) => {
+                    case.check(&order_call(&mut random, turn, true));
+                    ENGINES
+                }
+                None => case.join_case(&mut random, book),
+            };
+            let wrong = case.wrong;
+            self.close(report, kind(book, of), "join", index, wrong);
+        }
+    }
+
+    pub(crate) fn routes(
+        &self,
+        report: &mut Report,
+        book: Book,
+        indices: impl Iterator<Item = u64>,
+    ) {
+        let swept = swept(book);
+        for index in indices {
+            let mut random = Random::for_case(self.seed(book) ^ ROUTES, index);
+            let mut case = Case::new(self.library, report);
+            let of = case.route_case(&mut random, book, &swept, index);
+            let wrong = case.wrong;
+            self.close(report, kind(book, of), "route", index, wrong);
+        }
+    }
+
     fn close(&self, report: &mut Report, kind: usize, name: &str, index: u64, wrong: Vec<String>) {
         report.kinds[kind] += 1;
         self.done.fetch_add(1, Ordering::Relaxed);
         let seed = self.seed;
-        report.close(format_args!("seed {seed}, {name} index {index}"), &wrong);
+        let kind = KINDS[kind];
+        report.close(
+            format_args!("seed {seed}, {kind}, {name} index {index}"),
+            &wrong,
+        );
+    }
+}
+
+/// Every fiftieth domestic case has an order with one field out of range, in turn.
+fn order_turn(book: Book, index: u64) -> Option<u64> {
+    let due = book == Book::Domestic && index.is_multiple_of(50);
+    due.then_some(index / 50)
+}
+
+/// The place among the kinds of engines with an account.
+const ENGINES: usize = 4;
+
+/// The place among the kinds of a case that is of a book.
+fn kind(book: Book, of: usize) -> usize {
+    match book {
+        Book::CrossBorder => of,
+        Book::Domestic => DOMESTIC_KINDS + of,
     }
 }
 
@@ -156,28 +275,29 @@ impl<'a, S: Side> Case<'a, S> {
         }
     }
 
-    fn join_case(&mut self, random: &mut Random) -> usize {
+    fn join_case(&mut self, random: &mut Random, book: Book) -> usize {
         let (kind, call) = match random.below(100) {
-            0..20 => (1, portion_call(random)),
-            20..50 => (2, join_call(random)),
+            0..20 => (1, portion_call(random, book)),
+            20..50 if book == Book::CrossBorder => (2, join_call(random)),
+            20..25 => (2, join_call(random)),
             50..70 => {
-                let cut = cut(random);
+                let cut = cut(random, book);
                 let hauled = self.grouped(random, &cut);
                 self.both_sheets(&cut, hauled);
                 return 3;
             }
-            70..90 => (4, engines_call(random)),
-            _ => (5, speed_call(random)),
+            90..100 if book == Book::CrossBorder => (5, speed_call(random)),
+            _ => (ENGINES, engines_call(random, book)),
         };
         self.check(&call);
         kind
     }
 
     /// What is swept comes in turn, first for whole trains and then for accounts.
-    fn route_case(&mut self, random: &mut Random, swept: &[Met], index: u64) -> usize {
-        if index.is_multiple_of(SWEPT_EACH) {
-            let turn = (index / SWEPT_EACH) as usize;
-            let journey = swept_journey(random, swept[turn % swept.len()]);
+    fn route_case(&mut self, random: &mut Random, book: Book, swept: &[Met], index: u64) -> usize {
+        if index.is_multiple_of(swept_each(book)) {
+            let turn = (index / swept_each(book)) as usize;
+            let journey = swept_journey(random, book, swept[turn % swept.len()]);
             let fill = random.draw() as u8;
             return match (turn / swept.len()).is_multiple_of(2) {
                 true => self.route(6, &journey.of_train(fill)),
@@ -185,10 +305,10 @@ impl<'a, S: Side> Case<'a, S> {
             };
         }
         match random.below(100) {
-            0..45 => self.route(6, &route_call(random, Size::Any)),
-            45..80 => self.route(7, &account_route_call(random)),
+            0..45 => self.route(6, &route_call(random, book, Size::Any)),
+            45..80 => self.route(7, &account_route_call(random, book)),
             _ => {
-                let cut = cut(random);
+                let cut = cut(random, book);
                 let hauled = self.grouped(random, &cut);
                 let orders = written(&some_sections(random, &cut.draft));
                 self.both_routes(&cut, hauled, orders);
@@ -201,7 +321,7 @@ impl<'a, S: Side> Case<'a, S> {
     fn number_case(&mut self, random: &mut Random, index: u64) {
         let seats = seats();
         let seat = seats[index as usize % seats.len()];
-        let mut draft = two_engines(random);
+        let mut draft = two_engines(random, Book::CrossBorder);
         for attempt in attempts(case_number(random, index)) {
             seat.part.vehicle(&mut draft).number = attempt.number;
             let call = seated(seat.function, &draft);
@@ -399,8 +519,9 @@ pub(crate) fn shown(answer: u64) -> String {
 mod tests {
     use super::*;
     use crate::answer::route_answer;
+    use crate::book::CROSS_BORDER;
     use crate::call::{Function, FUNCTIONS};
-    use crate::category::{Category, CATEGORIES};
+    use crate::category::Category;
     use crate::facts::Facts;
     use crate::former_list::{former_route, former_sheet};
     use crate::gen::damage::Span;
@@ -411,7 +532,7 @@ mod tests {
     use crate::page::RecordOf;
     use crate::precedence::refusals;
     use crate::ranges::hold;
-    use crate::route::{sections, speed_on, speeds};
+    use crate::route::{sections, speeds};
     use crate::vehicle::{digits, is_number, is_working, Vehicle};
 
     /// The model with one slip of the page's list, or with a write where none is allowed.
@@ -459,7 +580,7 @@ mod tests {
                         figure[2..].fill(0);
                     }
                 }
-                Slip::TakesUnusedBytes if taken.len() == ACCOUNT => taken[73..].fill(0),
+                Slip::TakesUnusedBytes if taken.len() == ACCOUNT => taken[82..].fill(0),
                 Slip::TakesLonger => taken.truncate(ACCOUNT),
                 _ => {}
             }
@@ -492,13 +613,13 @@ mod tests {
             }
         }
 
-        /// The records as one with this slip judges a field of theirs.
-        fn ranged(self, function: Function, of: RecordOf, records: &[u8]) -> Vec<u8> {
+        /// The vehicles, or the orders, as one with this slip judges a field of theirs.
+        fn ranged(self, function: Function, vehicles: bool, records: &[u8]) -> Vec<u8> {
             let mut ranged = records.to_vec();
             let Slip::Range(one, whose, [right, wrong]) = self else {
                 return ranged;
             };
-            if (one, whose) == (function, of) {
+            if (one, whose == RecordOf::Vehicle) == (function, vehicles) {
                 for record in ranged.chunks_exact_mut(ORDER) {
                     let value = right.read(record);
                     match (wrong.has(value), right.has(value)) {
@@ -513,7 +634,7 @@ mod tests {
 
         /// The vehicles as one with this slip judges their numbers.
         fn numbered(self, function: Function, vehicles: &[u8]) -> Vec<u8> {
-            let mut numbered = self.ranged(function, RecordOf::Vehicle, vehicles);
+            let mut numbered = self.ranged(function, true, vehicles);
             for record in numbered.as_chunks_mut().0 {
                 let mut vehicle = Vehicle::read(record);
                 match (
@@ -575,7 +696,7 @@ mod tests {
                 _ => &sections[..],
             };
             let key = |category: &&Category| {
-                let speeds = speeds(category, &facts, seen)?;
+                let speeds = speeds(&CROSS_BORDER, category, &facts, seen)?;
                 let key = match self {
                     Slip::RouteByFastest => speeds.into_iter().max(),
                     _ => speeds.into_iter().min(),
@@ -584,11 +705,11 @@ mod tests {
                 let later = self == Slip::RouteTieByGreater;
                 Some((key, if later { number } else { -number }))
             };
-            let may_be = &CATEGORIES[usize::from(sections[0].asked) - 1..];
+            let may_be = &CROSS_BORDER.categories[usize::from(sections[0].asked) - 1..];
             let standing = may_be.iter().filter(|one| key(one).is_some());
             let granted = standing.max_by_key(key);
             for (byte, section) in room.iter_mut().zip(&sections) {
-                let speed = granted.and_then(|category| speed_on(category, &facts, section));
+                let speed = granted.and_then(|one| CROSS_BORDER.speed(one, &facts, section));
                 *byte = speed.unwrap_or(0);
             }
             granted.map_or(0, |category| u64::from(category.number) << 32)
@@ -598,7 +719,7 @@ mod tests {
     impl Side for Slip {
         fn sheet_of_train(&self, vehicles: &[u8], order: &[u8], room: &mut [u8]) -> u64 {
             let vehicles = self.numbered(Function::SheetOfTrain, vehicles);
-            let order = self.ranged(Function::SheetOfTrain, RecordOf::Order, order);
+            let order = self.ranged(Function::SheetOfTrain, false, order);
             let answer = Model.sheet_of_train(&vehicles, &order, room);
             match self {
                 Slip::MarginTowardZero if answer == 0 && room[10..13] == [255; 3] => {
@@ -646,7 +767,7 @@ mod tests {
         ) -> u64 {
             let engines = self.numbered(Function::SheetOfAccount, engines);
             let hauled = self.taken(hauled);
-            let order = self.ranged(Function::SheetOfAccount, RecordOf::Order, order);
+            let order = self.ranged(Function::SheetOfAccount, false, order);
             let answer = Model.sheet_of_account(&engines, &hauled, &order, room);
             let inputs = Inputs::Engines {
                 engines,
@@ -664,7 +785,7 @@ mod tests {
 
         fn route_of_train(&self, vehicles: &[u8], orders: &[u8], room: &mut [u8]) -> u64 {
             let vehicles = &self.numbered(Function::RouteOfTrain, vehicles);
-            let orders = &self.ranged(Function::RouteOfTrain, RecordOf::Order, orders);
+            let orders = &self.ranged(Function::RouteOfTrain, false, orders);
             let answer = Model.route_of_train(vehicles, orders, room);
             let (number, place, _) = parts(answer);
             let sections = orders.len() / ORDER;
@@ -698,7 +819,7 @@ mod tests {
         ) -> u64 {
             let engines = self.numbered(Function::RouteOfAccount, engines);
             let hauled = self.taken(hauled);
-            let orders = self.ranged(Function::RouteOfAccount, RecordOf::Order, orders);
+            let orders = self.ranged(Function::RouteOfAccount, false, orders);
             let answer = Model.route_of_account(&engines, &hauled, &orders, room);
             let inputs = Inputs::AccountRoute {
                 engines,
@@ -742,8 +863,13 @@ mod tests {
             seed: 3,
             done: &AtomicU64::new(0),
         };
-        let report = run.cases(0..trains, 0..joins, 0..routes, 0..numbers);
-        report.differences
+        let sizes = Sizes {
+            trains: [trains, 0],
+            joins: [joins, 0],
+            routes: [routes, 0],
+            numbers,
+        };
+        run.cases(&sizes).differences
     }
 
     #[test]
@@ -824,7 +950,7 @@ mod tests {
         for row in page_rows().into_iter().skip(1) {
             let reading = FUNCTIONS.into_iter().filter(|&function| match row.of {
                 RecordOf::Vehicle => function != Function::Join,
-                RecordOf::Order => refusals(function).contains(&4),
+                _ => refusals(function).contains(&4),
             });
             for function in reading {
                 for wrong in row.moved() {
@@ -835,6 +961,6 @@ mod tests {
                 }
             }
         }
-        assert_eq!(planted, 6 * 38 + 4 * 32);
+        assert_eq!(planted, 6 * 38 + 4 * 32 + 4 * 36);
     }
 }

@@ -1,11 +1,12 @@
 //! The list of rules as it was before request Five withdrew 46. It makes no sheet: what it would have said is for comparison alone.
 
+use crate::book::{Book, RuleBook, CROSS_BORDER, DOMESTIC};
 use crate::category::{begun_20_m, Category};
 use crate::facts::Facts;
 use crate::order::Order;
-use crate::route::{granted_among, Route};
+use crate::route::{granted_under, Route};
 use crate::rules::category_rule;
-use crate::sheet::{sheet_under, SHEET};
+use crate::sheet::sheet_under;
 
 /// 46: the begun 20 m, before they are held at 10, are more than 10.
 pub fn breaks_46(facts: &Facts) -> bool {
@@ -13,22 +14,31 @@ pub fn breaks_46(facts: &Facts) -> bool {
 }
 
 /// The first rule that a category broke of its own, or 0: 1 to 3 asked 46 behind all others but 47.
-pub fn former_rule(category: &Category, facts: &Facts, order: &Order) -> u8 {
+fn former_rule(category: &Category, facts: &Facts, order: &Order) -> u8 {
     match category_rule(category, facts, order) {
-        0 | 47 if category.is_p() && breaks_46(facts) => 46,
+        0 | 47 if category.is_1_to_3() && breaks_46(facts) => 46,
         rule => rule,
     }
 }
 
-pub fn former_sheet(facts: &Facts, order: &Order) -> [u8; SHEET] {
-    sheet_under(former_rule, facts, order)
+/// The book as it was; the domestic one never had 46.
+fn former(book: Book) -> RuleBook {
+    match book {
+        Book::CrossBorder => RuleBook {
+            own: former_rule,
+            ..CROSS_BORDER
+        },
+        Book::Domestic => DOMESTIC,
+    }
+}
+
+pub fn former_sheet(facts: &Facts, order: &Order) -> Vec<u8> {
+    sheet_under(&former(order.book), facts, order)
 }
 
 pub fn former_route(facts: &Facts, sections: &[Order]) -> Route {
-    granted_among(facts, sections, |category| {
-        let mut sections = sections.iter();
-        sections.all(|section| former_rule(category, facts, section) == 0)
-    })
+    let book = sections.first().map_or(Book::CrossBorder, |one| one.book);
+    granted_under(&former(book), facts, sections)
 }
 
 #[cfg(test)]

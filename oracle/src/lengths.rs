@@ -5,6 +5,7 @@ use std::fmt::Write;
 use self::Reading::{NotHeld, WagonsAlone, Whole, WithIsolated, WithM, WithR, WithWorking};
 use crate::account::Account;
 use crate::answer::route_answer;
+use crate::book::Book;
 use crate::call::{Call, Function, Inputs, FUNCTIONS};
 use crate::category::{begun_20_m, deduction};
 use crate::coverage::Scope;
@@ -123,7 +124,7 @@ impl Reading {
 pub fn done(inputs: &Inputs, facts: &Facts) -> Option<(u64, Vec<u8>)> {
     match inputs {
         Inputs::Train { order, .. } | Inputs::Engines { order, .. } => {
-            Some((0, sheet(facts, &Order::read(order)?).to_vec()))
+            Some((0, sheet(facts, &Order::read(order)?)))
         }
         Inputs::TrainRoute { orders, .. } | Inputs::AccountRoute { orders, .. } => {
             let route = granted(facts, &sections(orders).ok()?);
@@ -232,7 +233,9 @@ impl Lengths {
             (Inputs::Accounts { left, right }, [] | [2], _) => {
                 self.note_joined(left, right);
             }
-            (inputs, [], Some(facts)) => self.note_facts(call.function(), inputs, facts),
+            (inputs, [], Some(facts)) if Book::of(inputs.orders()) == Book::CrossBorder => {
+                self.note_facts(call.function(), inputs, facts);
+            }
             _ => {}
         }
     }

@@ -1,13 +1,18 @@
-//! A second reading of document 01 and the requests after it: the model, its inputs, and the comparison with the product.
+//! A second reading of document 01, the domestic rule book and the requests after them: the model, its inputs, and the comparison with the product.
 
 pub mod account;
 pub mod answer;
+pub mod book;
 pub mod boundaries;
 pub mod call;
 pub mod calls;
 pub mod category;
 pub mod coverage;
 pub mod diff;
+pub mod domestic;
+pub mod domestic_rules;
+#[cfg(test)]
+mod domestic_slips;
 pub mod facts;
 pub mod former_list;
 pub mod gen;

@@ -1,10 +1,10 @@
 //! The lines of text that SHEET and ROUTE write.
 
 use crate::answer::parts;
+use crate::book::Book;
 use crate::calls::{route_of_train, sheet_of_train};
 use crate::order::ORDER;
 use crate::route::SECTIONS;
-use crate::sheet::SHEET;
 
 /// SHEET reads no byte behind these: an order and 201 vehicles.
 pub const MOST_INPUT: usize = 4_848;
@@ -18,13 +18,16 @@ pub const MOST_ROUTE: usize = 1 + 255 * ORDER + MOST_VEHICLES;
 /// Number, place, and the sheet in hex or "-", closed by a line feed.
 pub fn line(input: &[u8]) -> String {
     let input = &input[..input.len().min(MOST_INPUT)];
-    let mut sheet = [0; SHEET];
+    // Of a cross-border order the last byte is not written, and not shown.
+    let mut sheet = vec![0; Book::Domestic.sheet()];
     let answer = match input.split_at_checked(ORDER) {
         Some((order, vehicles)) => sheet_of_train(vehicles, order, &mut sheet),
         None => 1,
     };
     let (number, place, _) = parts(answer);
-    format!("{number} {place} {}\n", hex_or_none(number, &sheet))
+    let order = &input[..input.len().min(ORDER)];
+    let written = &sheet[..Book::of(order).sheet()];
+    format!("{number} {place} {}\n", hex_or_none(number, written))
 }
 
 /// Number, place, category, and the sections' speeds in hex or "-", closed by a line feed.

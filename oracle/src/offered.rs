@@ -242,7 +242,7 @@ mod tests {
     fn every_value_and_byte_is_tried() {
         let probes = probes();
         let of = |kind| probes.iter().filter(|probe| probe.kind() == kind).count();
-        assert_eq!(KINDS.map(of), [16 * 9, 4 * 4, 5 * 3, 55, 6]);
+        assert_eq!(KINDS.map(of), [18 * 9, 5 * 4, 5 * 3, 46, 6]);
     }
 
     #[test]

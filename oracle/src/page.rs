@@ -1,20 +1,27 @@
-//! The page of ranges that a yard foreman reads, docs/RANGES.md: its two tables, row by row.
+//! The page of ranges that a yard foreman reads, docs/RANGES.md: its three tables, row by row.
 
 use crate::gen::damage::Span;
 
-/// The record that a table speaks of; both have as many bytes.
+/// The record that a table speaks of; all have as many bytes.
 #[derive(Clone, Copy, Debug, PartialEq, Eq)]
 pub enum RecordOf {
     Vehicle,
+    /// A cross-border order.
     Order,
+    /// A domestic order.
+    Domestic,
 }
 
 const RECORD: usize = 24;
 
 /// The tables in their order, each with the heading that it stands under.
-const TABLES: [(RecordOf, &str); 2] = [
+const TABLES: [(RecordOf, &str); 3] = [
     (RecordOf::Vehicle, "## The vehicle record, 24 bytes"),
-    (RecordOf::Order, "## The order record, 24 bytes"),
+    (
+        RecordOf::Order,
+        "## The cross-border order record, 24 bytes",
+    ),
+    (RecordOf::Domestic, "## The domestic order record, 24 bytes"),
 ];
 
 /// How a table begins.
@@ -53,7 +60,7 @@ fn in_table((_, text): &Line) -> bool {
     text.contains('|')
 }
 
-/// The rows of both tables, or the first line that is not as it has to be.
+/// The rows of all tables, or the first line that is not as it has to be.
 pub fn rows(page: &str) -> Result<Vec<Row>, String> {
     let lines: Vec<Line> = (1..).zip(page.lines()).collect();
     let mut rows = vec![];
@@ -63,7 +70,7 @@ pub fn rows(page: &str) -> Result<Vec<Row>, String> {
         let (line, _) = block[0];
         if in_table(&block[0]) {
             let table = tables.next();
-            let (of, due) = table.ok_or_else(|| format!("line {line}: a third table"))?;
+            let (of, due) = table.ok_or_else(|| format!("line {line}: a fourth table"))?;
             if heading != due {
                 return Err(format!("line {line}: the table is not under \"{due}\""));
             }
@@ -206,13 +213,47 @@ pub mod tests {
             "the line's limit for MA80; 0 is a missing column",
             "category asked",
             "percentage in the German timetable",
-            "always 0",
+            "book: 0 cross-border",
             "coupling limit (LRA)",
             "admissible mass",
             "always 0",
         ];
         let found: Vec<String> = page_rows().into_iter().map(|row| row.field).collect();
-        assert_eq!(found, fields);
+        assert_eq!(found[..24], fields);
+    }
+
+    /// A domestic order has the fields of the other as far as it can, and its own in bytes 6, 7 and from 16 on.
+    #[test]
+    fn a_domestic_order_has_its_own_fields() {
+        let rows = page_rows();
+        let lines = |rows: &[Row]| rows.iter().map(Row::line).collect::<Vec<_>>();
+        let (cross_border, domestic) = (lines(&rows[13..24]), lines(&rows[24..]));
+        assert_eq!(domestic.len(), 14);
+        assert_eq!(domestic[..5], cross_border[..5]);
+        assert_eq!(domestic[8..10], cross_border[8..10]);
+        let own = [
+            "| category asked | 5 | 1 | 6 |",
+            "| always 0 | 6 | 0 | 0 |",
+            "| book: 1 domestic | 7 | 1 | 1 |",
+        ];
+        assert_eq!(domestic[5..8], own);
+        let behind = [
+            "| the line's limit for ME140; 0 is a missing column | 16 | 0 | 200 |",
+            "| always 0 | 17 | 0 | 0 |",
+            "| always 0 | 18-19 | 0 | 0 |",
+            "| always 0 | 20-23 | 0 | 0 |",
+        ];
+        assert_eq!(domestic[10..], behind);
+    }
+
+    /// The page with one row of a table replaced by another; both orders have some rows alike.
+    pub fn replaced(page: &str, row: &Row, by: &Row) -> String {
+        let heading = TABLES.iter().find(|(of, _)| *of == row.of);
+        let (_, heading) = heading.expect("every record has its table");
+        let at = page.find(heading).expect("the page has the heading");
+        let (before, table) = page.split_at(at);
+        assert!(table.contains(&row.line()), "{}", row.line());
+        before.to_owned() + &table.replacen(&row.line(), &by.line(), 1)
     }
 
     /// With one text in the place of another the page is refused, and the line is so many below that place.
@@ -264,14 +305,14 @@ pub mod tests {
 
     #[test]
     fn other_tables_are_refused() {
-        let ([columns, _], [_, (_, order)]) = (COLUMNS, TABLES);
+        let ([columns, _], [_, (_, order), _]) = (COLUMNS, TABLES);
         let elsewhere = format!("the table is not under \"{order}\"");
         let (_, behind) = PAGE.split_once(order).expect("the page has the heading");
         let below = behind.lines().take_while(|line| !line.contains('|'));
         assert_fault(order, "## The order record", below.count(), &elsewhere);
         assert_fault("One thing", columns, 0, &elsewhere);
-        let last = page_rows()[23].line();
-        assert_fault(&last, &format!("{last}\n\n{columns}"), 2, "a third table");
+        let last = page_rows()[37].line();
+        assert_fault(&last, &format!("{last}\n\n{columns}"), 2, "a fourth table");
         let exchanged = "| Field | Bytes | High | Low |";
         assert_fault(columns, exchanged, 0, &format!("not \"{columns}\""));
         let (one_table, _) = PAGE.split_once(order).expect("the page has the heading");

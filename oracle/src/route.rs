@@ -3,13 +3,16 @@
 use std::cmp::Reverse;
 
 use crate::answer::{demand, Refusal};
-use crate::category::{Category, CATEGORIES};
+use crate::book::{RuleBook, BOOK, CROSS_BORDER};
+use crate::category::Category;
 use crate::facts::Facts;
 use crate::order::{Order, ORDER};
-use crate::rules::{category_rule, common_rule};
 
 /// The most sections that a route may have.
 pub const SECTIONS: usize = 64;
+
+/// The byte of an order that holds the asked category.
+pub const ASKED: usize = 5;
 
 /// The category granted for the route, or 0, and its speed on each section.
 #[derive(Clone, Debug, PartialEq, Eq)]
@@ -30,43 +33,39 @@ pub fn sections(orders: &[u8]) -> Result<Vec<Order>, Refusal> {
     Ok(good.collect())
 }
 
-/// A field is out of range, or another category is asked than on the first section.
+/// A field is out of range, or another category is asked or another book named than on the first section.
 pub fn is_bad(records: &[[u8; ORDER]], place: usize) -> bool {
-    let asked = |place: usize| records[place][5];
-    Order::read(&records[place]).is_none() || asked(place) != asked(0)
-}
-
-/// A category's speed on one section; None where it breaks a rule there.
-pub fn speed_on(category: &Category, facts: &Facts, section: &Order) -> Option<u8> {
-    let broken = common_rule(facts) != 0 || category_rule(category, facts, section) != 0;
-    let line_speed = category.line_speed(section).filter(|_| !broken)?;
-    Some(category.speed(facts, line_speed))
+    let same = |at: usize| records[place][at] == records[0][at];
+    Order::read(&records[place]).is_none() || !same(ASKED) || !same(BOOK)
 }
 
 /// A category's speed on every section; None where it breaks a rule on any.
-pub fn speeds(category: &Category, facts: &Facts, sections: &[Order]) -> Option<Vec<u8>> {
+pub fn speeds(
+    book: &RuleBook,
+    category: &Category,
+    facts: &Facts,
+    sections: &[Order],
+) -> Option<Vec<u8>> {
     let speeds = sections.iter();
     speeds
-        .map(|section| speed_on(category, facts, section))
+        .map(|section| book.speed(category, facts, section))
         .collect()
 }
 
 /// The greatest of the slowest-section speeds, the lowest number at a tie, among the asked and greater ones.
 pub fn granted(facts: &Facts, sections: &[Order]) -> Route {
-    granted_among(facts, sections, |_| true)
+    let book = sections
+        .first()
+        .map_or(&CROSS_BORDER, |one| one.book.rules());
+    granted_under(book, facts, sections)
 }
 
-/// The same where some categories are left out.
-pub fn granted_among(
-    facts: &Facts,
-    sections: &[Order],
-    stays: impl Fn(&Category) -> bool,
-) -> Route {
+/// The same under a rule book.
+pub fn granted_under(book: &RuleBook, facts: &Facts, sections: &[Order]) -> Route {
     let asked = sections.first().map_or(0, |section| section.asked);
-    let may_be = CATEGORIES.iter();
-    let may_be = may_be.filter(|one| one.number >= asked && stays(one));
+    let may_be = book.categories.iter().filter(|one| one.number >= asked);
     let standing = may_be.filter_map(|category| {
-        let speeds = speeds(category, facts, sections)?;
+        let speeds = speeds(book, category, facts, sections)?;
         Some((category.number, speeds))
     });
     let best =

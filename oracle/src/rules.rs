@@ -1,11 +1,8 @@
-//! The rules: the common ones first, then those of each category in rising number.
+//! The rules of the cross-border book: the common ones first, then those of each category in rising number.
 
 use crate::category::Category;
 use crate::facts::Facts;
 use crate::order::Order;
-
-/// A list of the rules that a category has of its own, by the first that it breaks, or 0.
-pub type List = fn(&Category, &Facts, &Order) -> u8;
 
 /// The first common rule broken, or 0.
 pub fn common_rule(facts: &Facts) -> u8 {
@@ -27,7 +24,7 @@ pub fn category_rule(category: &Category, facts: &Facts, order: &Order) -> u8 {
     if category.line_speed(order).is_none() {
         return 30;
     }
-    let own = if category.is_p() {
+    let own = if category.is_1_to_3() {
         p_rule(facts)
     } else {
         g_rule(facts, order)
@@ -62,7 +59,8 @@ fn g_rule(facts: &Facts, order: &Order) -> u8 {
     ])
 }
 
-fn first_broken(rules: &[(u8, bool)]) -> u8 {
+/// The number of the first rule that is broken, or 0.
+pub fn first_broken(rules: &[(u8, bool)]) -> u8 {
     let broken = rules.iter().find(|(_, broken)| *broken);
     broken.map_or(0, |(number, _)| *number)
 }

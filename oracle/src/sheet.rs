@@ -1,65 +1,46 @@
-//! The sheet, 32 bytes, and granting.
+//! The sheet, 32 bytes or, of a domestic order, 33, and granting.
 
-use crate::category::{Category, CATEGORIES};
+use crate::book::RuleBook;
 use crate::facts::Facts;
 use crate::order::Order;
-use crate::rules::{category_rule, common_rule, List};
 
-pub const SHEET: usize = 32;
-
-pub fn sheet(facts: &Facts, order: &Order) -> [u8; SHEET] {
-    sheet_under(category_rule, facts, order)
+pub fn sheet(facts: &Facts, order: &Order) -> Vec<u8> {
+    sheet_under(order.book.rules(), facts, order)
 }
 
-/// The sheet where the categories have this list.
-pub fn sheet_under(list: List, facts: &Facts, order: &Order) -> [u8; SHEET] {
-    let asked = &CATEGORIES[usize::from(order.asked) - 1];
-    let common = common_rule(facts);
-    let mut sheet = [0; SHEET];
-    sheet[0] = order.asked;
-    sheet[3] = common;
-    for (broken, category) in sheet[4..9].iter_mut().zip(&CATEGORIES) {
-        *broken = match common {
-            0 => list(category, facts, order),
-            rule => rule,
-        };
-    }
-    if let Some((category, speed)) = granted(&sheet[4..9], facts, order) {
-        sheet[1] = category.number;
-        sheet[2] = speed;
-    }
+/// The sheet under a rule book.
+pub fn sheet_under(book: &RuleBook, facts: &Facts, order: &Order) -> Vec<u8> {
+    let asked = book.asked(order);
+    let (granted, speed) = granted(book, facts, order).unwrap_or((0, 0));
+    let mut sheet = vec![order.asked, granted, speed, (book.common)(facts)];
+    let categories = book.categories.iter();
+    sheet.extend(categories.map(|category| book.rule(category, facts, order)));
     // The ceilings keep both counts below 256, and the margin within three bytes.
-    sheet[9] = facts.d_loads as u8;
-    sheet[10..13].copy_from_slice(&whole_tonnes(asked.margin(facts, order)));
-    sheet[13] = asked.percentage(order);
-    sheet[14] = u8::from(asked.is_p() && facts.hauled_mass > 12_000);
-    sheet[15] = facts.isolated as u8;
+    sheet.push(facts.d_loads as u8);
+    sheet.extend(whole_tonnes(asked.margin(facts, order)));
+    sheet.push(asked.percentage(facts, order));
+    sheet.push(u8::from(asked.is_1_to_3() && (book.marks)(facts)));
+    sheet.push(facts.isolated as u8);
     let longs = [
         facts.hauled_mass,
         facts.train_mass,
         asked.braked_tenths(facts),
         facts.train_length,
     ];
-    for (place, long) in sheet[16..].chunks_exact_mut(4).zip(longs) {
-        place.copy_from_slice(&long.to_le_bytes());
-    }
+    sheet.extend(longs.map(u32::to_le_bytes).as_flattened());
     sheet
 }
 
-/// The fastest category without a broken rule among the asked number and greater ones, the lowest at a tie.
-fn granted(broken: &[u8], facts: &Facts, order: &Order) -> Option<(Category, u8)> {
-    let mut best: Option<(Category, u8)> = None;
-    for (category, &rule) in CATEGORIES.iter().zip(broken) {
-        if category.number < order.asked || rule != 0 {
-            continue;
-        }
-        let Some(line_speed) = category.line_speed(order) else {
+/// The fastest category without a broken rule among the asked number and greater ones, the lowest at a tie; with its speed.
+fn granted(book: &RuleBook, facts: &Facts, order: &Order) -> Option<(u8, u8)> {
+    let mut best: Option<(u8, u8)> = None;
+    for category in &book.categories[usize::from(order.asked) - 1..] {
+        let Some(speed) = book.speed(category, facts, order) else {
             continue;
         };
-        let speed = category.speed(facts, line_speed);
         // A speed of 0 is a value like any other: an account may have it.
         if best.is_none_or(|(_, fastest)| speed > fastest) {
-            best = Some((*category, speed));
+            best = Some((category.number, speed));
         }
     }
     best

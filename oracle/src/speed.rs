@@ -5,9 +5,11 @@ use std::hint::black_box;
 use std::time::Instant;
 
 use crate::account::ACCOUNT;
+use crate::book::Book;
 use crate::call::{Call, Inputs, Model, Side, BUFFER};
 use crate::gen::accounts::{account_of, bad_account};
 use crate::gen::damage::refused_train;
+use crate::gen::domestic::stand_in_all;
 use crate::gen::draft::{bytes, Draft};
 use crate::gen::mixture::good_train;
 use crate::gen::routes::{written, LIMITS};
@@ -268,6 +270,68 @@ fn route_and_sheets(of: &str, sections: usize, make: fn(&Draft, Vec<u8>) -> Call
     [route, sheets]
 }
 
+/// Trains that stand in most categories of the domestic book, so that all its rules are asked.
+fn standing(hauled: usize) -> Vec<Draft> {
+    let mut random = Random::new(SEED + hauled as u64);
+    let mut draft = || {
+        let mut draft = good_train(&mut random, hauled);
+        stand_in_all(&mut random, &mut draft);
+        for vehicle in draft.working.iter_mut().chain(&mut draft.hauled) {
+            (vehicle.speed, vehicle.d_load) = (140, 0);
+        }
+        draft
+    };
+    (0..DISTINCT).map(|_| draft()).collect()
+}
+
+fn standing_trains(hauled: usize) -> Workload {
+    let mut drafts = standing(hauled).into_iter();
+    let name = format!("sheet_of_train, {hauled} standing");
+    Workload::new(name, hauled + 1, || {
+        train_call(&drafts.next().expect("there are as many as calls"))
+    })
+}
+
+fn standing_accounts(hauled: usize) -> Workload {
+    let mut drafts = standing(hauled).into_iter();
+    let name = format!("sheet_of_account, {hauled} standing");
+    Workload::new(name, 1, || {
+        let draft = drafts.next().expect("there are as many as calls");
+        call(draft.of_account(account_of(&draft.hauled).to_vec()), 32)
+    })
+}
+
+/// The same calls with domestic orders: the line, what is asked and the limits stay.
+fn made_domestic(mut workload: Workload) -> Workload {
+    workload.name += ", domestic";
+    for call in &mut workload.calls {
+        let (Inputs::Train { order, .. } | Inputs::Engines { order, .. }) = &mut call.inputs else {
+            continue;
+        };
+        let cross_border = Order::read(order).expect("what is measured has a good order");
+        let domestic = Order {
+            book: Book::Domestic,
+            me140: cross_border.limits[0],
+            percentage: 0,
+            ..cross_border
+        };
+        *order = domestic.write().to_vec();
+        call.room = Book::Domestic.sheet();
+    }
+    workload
+}
+
+/// A sheet under either book, of the same train or of the same engine and account.
+fn measured_books() -> Vec<[Workload; 2]> {
+    let of_trains = SIZES.map(|hauled| [trains(hauled), made_domestic(trains(hauled))]);
+    let others = [
+        [judged(), made_domestic(judged())],
+        [standing_trains(40), made_domestic(standing_trains(40))],
+        [standing_accounts(40), made_domestic(standing_accounts(40))],
+    ];
+    of_trains.into_iter().chain(others).collect()
+}
+
 fn measured_routes() -> Vec<[Workload; 2]> {
     let of_train = ROUTES.map(|sections| route_and_sheets("train", sections, train_route));
     let of_account = ROUTES.map(|sections| route_and_sheets("account", sections, account_route));
@@ -281,6 +345,12 @@ pub fn workload(what: &str, size: usize) -> Option<Workload> {
         "account" => Some(portions(size)),
         "join" => Some(joins()),
         "judge" => Some(judged()),
+        "domestic" => Some(made_domestic(trains(size))),
+        "judge-domestic" => Some(made_domestic(judged())),
+        "standing" => Some(standing_trains(size)),
+        "standing-domestic" => Some(made_domestic(standing_trains(size))),
+        "standing-account" => Some(standing_accounts(size)),
+        "standing-account-domestic" => Some(made_domestic(standing_accounts(size))),
         "refusal" => Some(refused(size as u8)),
         "route" | "sheets" => {
             let [route, sheets] = route_and_sheets("train", size, train_route);
@@ -310,19 +380,22 @@ pub fn table(library: &impl Side) -> String {
     for workload in &workloads() {
         row(&mut text, workload, library);
     }
-    for pair in &measured_routes() {
-        let [(ours, theirs), (our_sheets, their_sheets)] = pair
-            .each_ref()
-            .map(|workload| row(&mut text, workload, library));
-        let _ = writeln!(
-            text,
-            "{:<46} {:>9.3} {:>19.3}",
-            "  the route's share of the sheets",
-            ours / our_sheets,
-            theirs / their_sheets
-        );
+    for [route, sheets] in &measured_routes() {
+        let name = "  the route's share of the sheets";
+        shares(&mut text, name, [route, sheets], library);
+    }
+    for [cross_border, domestic] in &measured_books() {
+        let name = "  the domestic sheet against the other";
+        shares(&mut text, name, [domestic, cross_border], library);
     }
     text
+}
+
+/// Writes the rows of two workloads, and the first one's share of the second.
+fn shares(text: &mut String, name: &str, pair: [&Workload; 2], library: &impl Side) {
+    let [part, whole] = pair.map(|workload| row(text, workload, library));
+    let (ours, theirs) = (part.0 / whole.0, part.1 / whole.1);
+    let _ = writeln!(text, "{name:<46} {ours:>9.3} {theirs:>19.3}");
 }
 
 /// Writes one row, and hands back both times.

@@ -3,6 +3,7 @@
 use std::fmt::Write;
 
 use crate::account::{Account, ACCOUNT};
+use crate::book::Book;
 use crate::call::{Call, Function, Inputs};
 use crate::coverage::Scope;
 use crate::facts::Facts;
@@ -11,25 +12,19 @@ use crate::gen::lengths::PAST_700_M;
 use crate::order::{Order, ORDER};
 use crate::route::granted;
 use crate::rules::common_rule;
-use crate::sheet::{sheet, SHEET};
+use crate::sheet::sheet;
 use crate::tally::Tally;
 
 /// Where alone a sheet may change: an account that no list has, with more than 700 m set to V in a length of at most 700 m.
 fn may_change(inputs: &Inputs, facts: &Facts) -> bool {
     let of_account = matches!(inputs, Inputs::Engines { .. } | Inputs::AccountRoute { .. });
-    of_account && facts.hauled_length_v > 7_000 && facts.hauled_length <= 7_000
+    let cross_border = Book::of(inputs.orders()) == Book::CrossBorder;
+    of_account && cross_border && facts.hauled_length_v > 7_000 && facts.hauled_length <= 7_000
 }
 
 /// The order of a sheet, or those of a route's sections.
 fn orders(inputs: &Inputs) -> Vec<Order> {
-    let (Inputs::Train { order: orders, .. }
-    | Inputs::Engines { order: orders, .. }
-    | Inputs::TrainRoute { orders, .. }
-    | Inputs::AccountRoute { orders, .. }) = inputs
-    else {
-        return vec![];
-    };
-    let records = orders.as_chunks::<ORDER>().0.iter();
+    let records = inputs.orders().as_chunks::<ORDER>().0.iter();
     records.filter_map(|record| Order::read(record)).collect()
 }
 
@@ -61,7 +56,7 @@ fn is_kept(inputs: &Inputs, facts: &Facts) -> bool {
 }
 
 /// The old sheet with what the new one grants, and with what it has for 46.
-fn without_46(mut old: [u8; SHEET], new: &[u8; SHEET]) -> [u8; SHEET] {
+fn without_46(mut old: Vec<u8>, new: &[u8]) -> Vec<u8> {
     old[1..3].copy_from_slice(&new[1..3]);
     for (old, &new) in old[4..7].iter_mut().zip(&new[4..7]) {
         if *old == 46 && [0, 47].contains(&new) {
@@ -118,9 +113,12 @@ pub struct Withdrawal {
 }
 
 impl Withdrawal {
-    /// Of a call that is not refused.
+    /// Of a call that is not refused; the domestic book never had 46.
     pub fn note(&mut self, call: &Call, facts: &Facts) {
         let (function, inputs) = (call.function(), &call.inputs);
+        if Book::of(inputs.orders()) == Book::Domestic {
+            return;
+        }
         let common = common_rule(facts);
         let (length, length_v) = (facts.hauled_length, facts.hauled_length_v);
         if length_v <= length && breaks_46(facts) {
@@ -204,14 +202,14 @@ mod tests {
     #[test]
     fn nothing_else_may_change() {
         let new = sheet(&case_a().facts(), &case_a().order);
-        for byte in 0..SHEET {
-            let mut old = new;
+        for byte in 0..new.len() {
+            let mut old = new.clone();
             old[byte] = 46;
             let may = [1, 2, 4, 5, 6].contains(&byte);
             assert_eq!(without_46(old, &new) == new, may, "{byte}");
         }
-        let old = [46; SHEET];
-        assert_eq!(without_46(old, &[45; SHEET])[4..7], [46; 3]);
+        let old = vec![46; 32];
+        assert_eq!(without_46(old, &[45; 32])[4..7], [46; 3]);
     }
 
     #[test]

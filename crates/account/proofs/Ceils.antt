@@ -9,7 +9,7 @@ use lib.Dec.{leb}
 use lib.ListN.{getD, length-append, length-reverse}
 use Rattle.lists.specs.Words.{all, Every}
 use Rattle.record.specs.Ranges.{value}
-use Rattle.record.specs.Vehicles.{nth, vehicle, isHauledEngine, isIsolated, isM, isV, hasDLoad}
+use Rattle.record.specs.Vehicles.{nth, vehicle, isWagon, isHauledEngine, isIsolated, isM, isV, hasDLoad}
 use Rattle.record.specs.declared.vehicle.Vehicle.{Vehicle}
 use Rattle.record.proofs.Vehicles.{at-most}
 use Rattle.account.specs.Accounts.{accountOf}
@@ -93,6 +93,13 @@ pub dload-le : (v : Vehicle) → GoodHauled v → v .dload ≤ 1
 unfolding vehicle
 dload-le = field-le (λ v. v .dload) 11 (omega arith) (λ r. refl)
 
+-- the M mass of a hauled engine set to M, the V mass of a wagon set to M
+pub engine-le : (v : Vehicle) → GoodHauled v → cond (isHauledEngine v && isM v) (v .mmass) 0 ≤ 2500
+engine-le v g = cond-le (isHauledEngine v && isM v) (v .mmass) 2500 (mmass-le v g)
+
+pub wagon-le : (v : Vehicle) → GoodHauled v → cond (isWagon v && isM v) (v .vmass) 0 ≤ 2500
+wagon-le v g = cond-le (isWagon v && isM v) (v .vmass) 2500 (vmass-le v g)
+
 -- a line each of what holds of every member of a list
 infixr 1 _⊗_
 pub _⊗_ : {A B : Type 0} → A → B → A × B
@@ -125,6 +132,8 @@ portion-ceilings xs h =
     ⊗ settings-small 3
     ⊗ settings-small 4
     ⊗ omega (arith, sum-le GoodHauled (λ v. cond (isV v) (v .length) 0) 1000 (λ v d. cond-le (isV v) (v .length) 1000 (length-le v d)) xs g)
+    ⊗ omega (arith, sum-le GoodHauled (λ v. cond (isHauledEngine v && isM v) (v .mmass) 0) 2500 engine-le xs g)
+    ⊗ omega (arith, sum-le GoodHauled (λ v. cond (isWagon v && isM v) (v .vmass) 0) 2500 wagon-le xs g)
     ⊗ tt
 
 pub portion-left : (xs ys : List Vehicle) → Portion (xs ++ ys) → Portion xs

@@ -12,7 +12,7 @@ use lib.ListN.{length, getD, set, take, drop, length-reverse, List·getD-append}
 use lib.Seq.{set-append-left}
 use Rattle.lists.specs.Words.{leading, Every}
 use Rattle.record.specs.Records.{records}
-use Rattle.record.specs.Vehicles.{good, vehicle, reading, isWagon, isHauledEngine, isIsolated, isJoined, hasMatrossow, hasDLoad}
+use Rattle.record.specs.Vehicles.{good, vehicle, reading, isWagon, isHauledEngine, isIsolated, isM, isJoined, hasMatrossow, hasDLoad}
 use Rattle.record.specs.declared.vehicle.Vehicle.{Vehicle}
 use Rattle.record.specs.declared.vehicle.Reading.the-variants.{Good}
 use Rattle.record.proofs.Records.{recordAt}
@@ -23,7 +23,7 @@ use Rattle.account.specs.Gathering.{runningOf, withOne, Room, setTo, byS
 use Rattle.account.specs.declared.gather.Running.{Running}
 use Rattle.lists.proofs.Lists.{every-append, every-map, every-at, every-set}
 use Rattle.lists.proofs.Figures.{some-append, trailing-append, longest-append, least-append, least-top, sum-le, count-le, cond-le, leading-le, some-count, sum-one, count-one, trailing-longest, firsts-one, firsts-length}
-use Rattle.account.proofs.Ceils.{_⊗_, mass-le, vmass-le, mmass-le, length-le, axles-le, setting-le, joined-le, dload-le}
+use Rattle.account.proofs.Ceils.{_⊗_, mass-le, vmass-le, mmass-le, length-le, axles-le, setting-le, joined-le, dload-le, engine-le, wagon-le}
 use Rattle.account.proofs.Portions.{read-good}
 
 -- an engine stands behind a wagon where not all of them lead
@@ -63,6 +63,9 @@ place-step (suc (suc zero)) h a b c d y = λ i. sym (add-zero a) i ∷ sym (add-
 place-step (suc (suc (suc zero))) h a b c d y = λ i. sym (add-zero a) i ∷ sym (add-zero b) i ∷ sym (add-zero c) i ∷ (d + y) ∷ []
 place-step (suc (suc (suc (suc s)))) h a b c d y = absurd (omega arith)
 
+some-one : (p : Vehicle → Bool) (xs : List Vehicle) (v : Vehicle) → some p (xs ++ (v ∷ [])) ≡ (some p xs || p v)
+some-one p xs v = some-append p xs (v ∷ []) ∙ ap (λ (b : Bool). some p xs || b) (or-false (p v))
+
 -- ---- one vehicle more
 running-more : (xs : List Vehicle) (v : Vehicle) → GoodHauled v → runningOf (xs ++ (v ∷ [])) ≡ withOne (runningOf xs) v
 unfolding runningOf withOne
@@ -79,10 +82,11 @@ running-more xs v g =
       longest =
           (longest-append isIsolated xs (v ∷ [])
           ∙ long-step (isIsolated v) (longest isIsolated xs) (trailing isIsolated xs) (trailing-longest isIsolated xs)) i;
-      rule18 =
-          (some-append (λ v. isWagon v && hasMatrossow v && not (isIsolated v)) xs (v ∷ [])
-          ∙ ap (λ (b : Bool). some (λ v. isWagon v && hasMatrossow v && not (isIsolated v)) xs || b) (or-false (isWagon v && hasMatrossow v && not (isIsolated v)))) i;
+      rule18 = some-one (λ v. isWagon v && hasMatrossow v && not (isIsolated v)) xs v i;
       slowest = slower i;
+      enginemmass = sum-one (λ v. cond (isHauledEngine v && isM v) (v .mmass) 0) xs v i;
+      wagonvmass = sum-one (λ v. cond (isWagon v && isM v) (v .vmass) 0) xs v i;
+      enginenotm = some-one (λ v. isHauledEngine v && not (isM v)) xs v i;
     }
   where
     slower : least 200 (λ (v : Vehicle). v .speed) (xs ++ (v ∷ [])) ≡ min (least 200 (λ (v : Vehicle). v .speed) xs) (v .speed)
@@ -173,6 +177,8 @@ running-room xs each few v g =
       dloads = omega (arith, count-le hasDLoad xs, dload-le v g);
       joined = omega (arith, count-le isJoined xs, joined-le v g);
       trailing = omega (arith, leading-le isIsolated (reverse xs), length-reverse xs);
+      enginemmass = omega (arith, sum-le GoodHauled (λ v. cond (isHauledEngine v && isM v) (v .mmass) 0) 2500 engine-le xs each, engine-le v g);
+      wagonvmass = omega (arith, sum-le GoodHauled (λ v. cond (isWagon v && isM v) (v .vmass) 0) 2500 wagon-le xs each, wagon-le v g);
     }
 
 -- ---- a turn of the loop over the records

@@ -65,6 +65,9 @@ account-append xs ys h =
       slowest = least-append 200 (λ v. v .speed) xs ys i;
       first = firsts-append 5 4 (λ v. v .setting) xs ys i;
       vlength = sum-append (λ v. cond (isV v) (v .length) 0) xs ys i;
+      enginemmass = sum-append (λ v. cond (isHauledEngine v && isM v) (v .mmass) 0) xs ys i;
+      wagonvmass = sum-append (λ v. cond (isWagon v && isM v) (v .vmass) 0) xs ys i;
+      enginenotm = some-append (λ v. isHauledEngine v && not (isM v)) xs ys i;
     }
 
 pub each-hauled : (xs : List Vehicle) → Every GoodHauled xs → Every Hauled xs
@@ -124,6 +127,8 @@ exchanged xs ys a b =
     ∷ same (λ v. cond (isIsolated v) 1 0) i
     ∷ same (λ v. cond (hasDLoad v) 1 0) i
     ∷ same (λ v. cond (isV v) (v .length) 0) i
+    ∷ same (λ v. cond (isHauledEngine v && isM v) (v .mmass) 0) i
+    ∷ same (λ v. cond (isWagon v && isM v) (v .vmass) 0) i
     ∷ []
 
 -- ---- the length of records set to V

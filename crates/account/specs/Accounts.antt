@@ -42,6 +42,10 @@ accountOf xs =
       first = firsts 5 4 (λ v. v .setting) xs;
       -- length of records set to V (request Three)
       vlength = sum (λ v. cond (isV v) (v .length) 0) xs;
+      -- M masses of hauled engines set to M; V masses of wagons set to M; a hauled engine is not set to M (request Six)
+      enginemmass = sum (λ v. cond (isHauledEngine v && isM v) (v .mmass) 0) xs;
+      wagonvmass = sum (λ v. cond (isWagon v && isM v) (v .vmass) 0) xs;
+      enginenotm = some (λ v. isHauledEngine v && not (isM v)) xs;
     }
 
 -- the account of no vehicle
@@ -51,4 +55,4 @@ empty = accountOf []
 -- the sums among the figures
 abbrev pub sums : Account → List ℕ
 sums a =
-    a .count ∷ a .mass ∷ a .vmass ∷ a .mmass ∷ a .length ∷ a .axles ∷ a .vaxles ∷ a .engines ∷ a .mset ∷ a .isolated ∷ a .dloads ∷ a .vlength ∷ []
+    a .count ∷ a .mass ∷ a .vmass ∷ a .mmass ∷ a .length ∷ a .axles ∷ a .vaxles ∷ a .engines ∷ a .mset ∷ a .isolated ∷ a .dloads ∷ a .vlength ∷ a .enginemmass ∷ a .wagonvmass ∷ []

@@ -39,6 +39,9 @@ figures a =
     ∷ getD (a .first) 4 0 upTo 4
     -- request Three
     ∷ a .vlength upTo 200000
+    -- request Six
+    ∷ a .enginemmass upTo 500000
+    ∷ a .wagonvmass upTo 500000
     ∷ []
 
 -- no figure is above its ceiling

@@ -5,7 +5,7 @@ use mathlib.Core.Bool.{not, _&&_, _||_, cond}
 use mathlib.Core.List.{List, [], _∷_, _++_, map}
 use lib.ListN.{getD, set}
 use Rattle.lists.specs.Words.{_is_, Every}
-use Rattle.record.specs.Vehicles.{isWagon, isHauledEngine, isIsolated, isJoined, hasMatrossow, hasDLoad}
+use Rattle.record.specs.Vehicles.{isWagon, isHauledEngine, isIsolated, isM, isJoined, hasMatrossow, hasDLoad}
 use Rattle.record.specs.declared.vehicle.Vehicle.{Vehicle}
 use Rattle.lists.specs.Figures.{sum, count, some, trailing, longest, least, firsts}
 use Rattle.account.specs.Groupings.{GoodHauled}
@@ -24,6 +24,9 @@ runningOf xs =
       longest = longest isIsolated xs;
       rule18 = some (λ v. isWagon v && hasMatrossow v && not (isIsolated v)) xs;
       slowest = least 200 (λ v. v .speed) xs;
+      enginemmass = sum (λ v. cond (isHauledEngine v && isM v) (v .mmass) 0) xs;
+      wagonvmass = sum (λ v. cond (isWagon v && isM v) (v .vmass) 0) xs;
+      enginenotm = some (λ v. isHauledEngine v && not (isM v)) xs;
     }
 
 -- one hauled record more: its marks are 0 or 1
@@ -40,6 +43,9 @@ withOne a v =
       longest = max (a .longest) (cond (isIsolated v) (a .trailing + 1) 0);
       rule18 = a .rule18 || (isWagon v && hasMatrossow v && not (isIsolated v));
       slowest = min (a .slowest) (v .speed);
+      enginemmass = a .enginemmass + cond (isHauledEngine v && isM v) (v .mmass) 0;
+      wagonvmass = a .wagonvmass + cond (isWagon v && isM v) (v .vmass) 0;
+      enginenotm = a .enginenotm || (isHauledEngine v && not (isM v));
     }
 
 -- what the additions ask for
@@ -51,6 +57,8 @@ pub record Room (a : Running) (v : Vehicle) : Type 0 where
   pub dloads : a .dloads + v .dload < 2 ^ 32
   pub joined : a .joined + v .joined < 2 ^ 32
   pub trailing : a .trailing + 1 < 2 ^ 32
+  pub enginemmass : a .enginemmass + cond (isHauledEngine v && isM v) (v .mmass) 0 < 2 ^ 32
+  pub wagonvmass : a .wagonvmass + cond (isWagon v && isM v) (v .vmass) 0 < 2 ^ 32
 
 -- f of a vehicle with setting k, and else 0
 abbrev pub setTo : ℕ → (Vehicle → ℕ) → Vehicle → ℕ

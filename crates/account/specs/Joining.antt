@@ -43,4 +43,8 @@ joining left right =
       first = fill (left .count) (left .first) (right .first);
       -- a sum (request Three)
       vlength = left .vlength + right .vlength;
+      -- two sums and a mark (request Six)
+      enginemmass = left .enginemmass + right .enginemmass;
+      wagonvmass = left .wagonvmass + right .wagonvmass;
+      enginenotm = left .enginenotm || right .enginenotm;
     }

@@ -29,6 +29,9 @@ pub(crate) fn empty_account() -> Account
         slowest: 200,
         first: [4; 5],
         vlength: 0,
+        enginemmass: 0,
+        wagonvmass: 0,
+        enginenotm: false,
     }
 }
 
@@ -58,4 +61,6 @@ pub(crate) fn is_within(a: Account) -> bool
         & (first[3] <= 4)
         & (first[4] <= 4)
         & (a.vlength <= 200_000)
+        & (a.enginemmass <= 500_000)
+        & (a.wagonvmass <= 500_000)
 }

@@ -17,7 +17,7 @@ use record::vehicle::Vehicle;
 use record::vehicle::leading_engines;
 use record::vehicle::leading_isolated;
 
-// The figures that are not sums by setting, and how many records are joined.
+// The figures that are not sums by setting alone, and how many records are joined.
 pub(crate) struct Running {
     pub(crate) mass: u32,
     pub(crate) length: u32,
@@ -29,6 +29,9 @@ pub(crate) struct Running {
     pub(crate) longest: u32,
     pub(crate) rule18: bool,
     pub(crate) slowest: u32,
+    pub(crate) enginemmass: u32,
+    pub(crate) wagonvmass: u32,
+    pub(crate) enginenotm: bool,
 }
 
 pub(crate) fn none_yet() -> Running
@@ -45,6 +48,9 @@ pub(crate) fn none_yet() -> Running
         longest: 0,
         rule18: false,
         slowest: 200,
+        enginemmass: 0,
+        wagonvmass: 0,
+        enginenotm: false,
     }
 }
 
@@ -56,12 +62,23 @@ fn run_to(isolated: bool, run: u32) -> u32
     if isolated { run + 1 } else { 0 }
 }
 
+// A figure where the mark holds.
+fn only(holds: bool, x: u32) -> u32
+    ensures { λ r. ⌜ r ≡ cond holds x 0 ⌝ }
+{
+    if holds { x } else { 0 }
+}
+
 // One record more. Marks of 0 and 1 add as they are.
 pub(crate) fn with_one(so_far: Running, v: Vehicle) -> Running
     requires { ⌜ Room «so_far» v ⌝ }
     ensures { λ r. ⌜ r ≡ withOne «so_far» v ⌝ }
 {
-    let trailing = run_to(v.setting == 0, so_far.trailing);
+    let isolated = v.setting == 0;
+    let set_to_m = v.setting == 1;
+    let wagon = v.kind == 0;
+    let engine = v.kind == 1;
+    let trailing = run_to(isolated, so_far.trailing);
     Running {
         mass: sum(so_far.mass, v.mass),
         length: sum(so_far.length, v.length),
@@ -71,8 +88,11 @@ pub(crate) fn with_one(so_far: Running, v: Vehicle) -> Running
         joined: sum(so_far.joined, v.joined),
         trailing: trailing,
         longest: greater(so_far.longest, trailing),
-        rule18: so_far.rule18 | ((v.kind == 0) & (v.matrossow == 1) & !(v.setting == 0)),
+        rule18: so_far.rule18 | (wagon & (v.matrossow == 1) & !isolated),
         slowest: lesser(so_far.slowest, v.speed),
+        enginemmass: sum(so_far.enginemmass, only(engine & set_to_m, v.mmass)),
+        wagonvmass: sum(so_far.wagonvmass, only(wagon & set_to_m, v.vmass)),
+        enginenotm: so_far.enginenotm | (engine & !set_to_m),
     }
 }
 
@@ -147,5 +167,8 @@ pub(crate) fn account_from(
         slowest: running.slowest,
         first: first,
         vlength: sums[18],
+        enginemmass: running.enginemmass,
+        wagonvmass: running.wagonvmass,
+        enginenotm: running.enginenotm,
     }
 }

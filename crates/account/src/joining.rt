@@ -76,5 +76,8 @@ pub(crate) fn add(left: Account, right: Account) -> Account
         slowest: lesser(left.slowest, right.slowest),
         first: first,
         vlength: sum(left.vlength, right.vlength),
+        enginemmass: sum(left.enginemmass, right.enginemmass),
+        wagonvmass: sum(left.wagonvmass, right.wagonvmass),
+        enginenotm: left.enginenotm | right.enginenotm,
     }
 }

@@ -52,6 +52,12 @@ pub struct Account {
     pub first: [u32; 5],
     // length of records set to V (request Three)
     pub vlength: u32,
+    // M masses of hauled engines set to M (request Six)
+    pub enginemmass: u32,
+    // V masses of wagons set to M (request Six)
+    pub wagonvmass: u32,
+    // a hauled engine is not set to M (request Six)
+    pub enginenotm: bool,
 }
 
 pub enum Answer {

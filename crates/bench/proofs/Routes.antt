@@ -97,7 +97,7 @@ module _ (input vs os blank : List ℕ) {given : Route} {speeds : List ℕ} (e :
       let category = c ∙ ap (λ (r : Route). r .granted) routed in
       let shown = t ∙ ap (take (length os / 24)) left in
       (λ i. routeLineBy (number i) (place i) (category i) (shown i))
-      ∙ ap (λ (t : List ℕ). answerFields (numberOf (routeOf input .answer)) (placeOf (routeOf input .answer)) ++ (field (routeOf input .granted) ++ t)) (last-shown (isDone (routeOf input .answer)) (speedsIn input) blank (length os / 24) counted)
+      ∙ ap (λ (t : List ℕ). answerFields (numberOf (routeOf input .answer)) (placeOf (routeOf input .answer)) ++ (field (routeOf input .granted) ++ t)) (last-shown (isDone (routeOf input .answer)) (speedsIn input) blank (length os / 24) (λ _. counted))
 
 -- ---- an order that is missing, or no byte behind the last, is refusal 1: "1 0 0 -"
 short-vehicles : (input : List ℕ) → length input ≤ 1 + 24 * sectionCount input → routeVehicles input ≡ []

@@ -105,14 +105,9 @@ front-within t l {m} e q =
     omega (arith, n, length-append t (drop (length t) l))
 
 -- ---- bytes written over blank ones, where it is done
-pub last-written : (done : Bool) (bytes blank : List ℕ) → length blank ≤ length bytes → lastField done (cond done (bytes ++ drop (length bytes) blank) blank) ≡ lastField done bytes
+pub last-shown : (done : Bool) (bytes blank : List ℕ) (n : ℕ) → (done ≡ true → length bytes ≡ n) → lastField done (take n (cond done (bytes ++ drop (length bytes) blank) blank)) ≡ lastField done bytes
 unfolding lastField
-last-written true bytes blank h = ap (λ (r : List ℕ). hex r ++ (10 ∷ [])) (ap (λ (r : List ℕ). bytes ++ r) (drop-of-length-le blank h) ∙ append-nil bytes)
-last-written false bytes blank h = refl
-
-pub last-shown : (done : Bool) (bytes blank : List ℕ) (n : ℕ) → length bytes ≡ n → lastField done (take n (cond done (bytes ++ drop (length bytes) blank) blank)) ≡ lastField done bytes
-unfolding lastField
-last-shown true bytes blank n e = ap (λ (r : List ℕ). hex r ++ (10 ∷ [])) (take-at bytes (drop (length bytes) blank) n e)
+last-shown true bytes blank n e = ap (λ (r : List ℕ). hex r ++ (10 ∷ [])) (take-at bytes (drop (length bytes) blank) n (e refl))
 last-shown false bytes blank n e = refl
 
 -- ---- the longest texts

@@ -5,6 +5,7 @@ use lib.ListN.{take, drop}
 use Rattle.lists.specs.Words.{_is_}
 use Rattle.record.specs.Vehicles.{vehicles}
 use Rattle.order.specs.Orders.{orderOf}
+use Rattle.order.specs.declared.Book.the-variants.{Domestic}
 use Rattle.facts.specs.Facts.{factsOf}
 use Rattle.sheets.specs.Sheets.{sheetLength}
 use Rattle.judge.specs.Answers.{numberOf, placeOf, trainAnswer, sheetFor}
@@ -18,9 +19,9 @@ orderPart input = take 24 input
 abbrev pub vehiclePart : List ℕ → List ℕ
 vehiclePart input = drop 24 (take 4848 input)
 
--- the answer for a sheet with room for its bytes; up to 24 bytes hold no vehicle: refusal 1
+-- the answer for a sheet with room for the bytes of either book; up to 24 bytes hold no vehicle: refusal 1
 unfoldable pub answerOf : List ℕ → Answer
-answerOf input = trainAnswer (vehiclePart input) (orderPart input) sheetLength
+answerOf input = trainAnswer (vehiclePart input) (orderPart input) (sheetLength Domestic)
 
 unfoldable pub sheetIn : List ℕ → List ℕ
 sheetIn input = sheetFor (factsOf (vehicles (vehiclePart input))) (orderOf (orderPart input))

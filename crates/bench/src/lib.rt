@@ -4,15 +4,16 @@ ghost use mathlib.Core.List.{_++_};
 ghost use Prim.Native.Nat.{_≤_};
 ghost use lib.ListN.{length, drop};
 ghost use lib.Seq.{sets};
-ghost use Rattle.sheets.specs.Sheets.{sheetLength};
 ghost use Rattle.bench.specs.Lines.{answerFields, lineBy, lineOf};
 ghost use Rattle.bench.specs.Routes.{routeLineBy, routeLineOf};
 use answer::number_of;
 use answer::place_of;
+use order::read_order;
 use part::behind;
 use part::first;
 use part::front;
-use sheets::LENGTH;
+use sheets::MOST;
+use sheets::length_of;
 
 mod part;
 mod text;
@@ -27,7 +28,7 @@ fn put_answer(number: usize, place: usize, line: &mut [u8]) -> usize
 }
 
 fn put_line(number: usize, place: usize, sheet: &[u8], line: &mut [u8]) -> usize
-    requires { ⌜ (length (now sheet) ≡ sheetLength) × (107 ≤ length (now line)) ⌝ }
+    requires { ⌜ (length (now sheet) ≤ 33) × (109 ≤ length (now line)) ⌝ }
     ensures { λ r. ⌜ r ≡ length (lineBy number place (now (sheet .entry))) ⌝ }
     ensures { λ _. ⌜ now (line .exit) ≡ sets (now (line .entry)) 0 (lineBy number place (now (sheet .entry))) ⌝ }
 {
@@ -42,9 +43,12 @@ pub fn line_of(input: &[u8], line: &mut [u8; 128]) -> usize
 {
     let order = front(input, 24);
     let vehicles = behind(front(input, 4848), 24);
-    let mut sheet = [0u8; LENGTH];
+    let mut sheet = [0u8; MOST];
     let answer = judge::sheet_of_train(vehicles, order, &mut sheet);
-    put_line(number_of(answer), place_of(answer), &sheet, line)
+    let o = read_order(order);
+    let book = o.book;
+    let shown = front(&sheet, length_of(book));
+    put_line(number_of(answer), place_of(answer), shown, line)
 }
 
 fn put_route_line(

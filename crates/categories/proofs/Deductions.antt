@@ -11,11 +11,12 @@ use Rattle.categories.specs.Brakes.{partsOf, deductionOf, marginFor}
 use Rattle.categories.specs.WholeLength.{wholeDeductionOf, wholeMarginFor}
 use Rattle.categories.specs.declared.category.Category.{Category}
 use Rattle.categories.specs.declared.category.Weigh.{Weigh}
-use Rattle.categories.specs.declared.category.Weigh.the-variants.{ThreeQuarters, Whole}
+use Rattle.categories.specs.declared.category.Weigh.the-variants.{ThreeQuarters, Whole, Long}
 
 pub k-not-grown : (w : Weigh) (f : Facts) → f .hauledVLength ≤ f .hauledLength → deductionOf w f ≤ wholeDeductionOf w f
 k-not-grown ThreeQuarters f h = omega arith
 k-not-grown Whole f h = omega arith
+k-not-grown Long f h = omega arith
 
 pub margin-not-less : (c : Category) (f : Facts) (o : Order) → f .hauledVLength ≤ f .hauledLength → wholeMarginFor c f o ≤ℤ marginFor c f o
 unfolding wholeMarginFor marginFor

@@ -1,15 +1,18 @@
 -- The categories: the theorems, over the definitions of specs/. Assumes nothing.
-use Prim.Native.Nat.{_≤_}
+use Prim.Native.Nat.{ℕ, suc, _≤_}
 use native.Mathlib.Omega.{arith}
 use mathlib.Core.Path.{_≡_, refl}
+use mathlib.Core.Bool.{Bool, true, false, cond}
 use mathlib.Core.List.{List, [], _∷_, map}
+use lib.ListN.{drop}
+use Rattle.lists.specs.Words.{_atMost_}
 use lib.Signed.{_≤ℤ_}
 use Rattle.record.specs.declared.vehicle.Vehicle.{Vehicle}
 use Rattle.facts.specs.Facts.{factsOf}
 use Rattle.facts.specs.declared.Facts.{Facts}
 use Rattle.facts.proofs.Demands.{v-length-within}
 use Rattle.order.specs.declared.Order.{Order}
-use Rattle.categories.specs.Categories.{crossRows, speedOf}
+use Rattle.categories.specs.Categories.{crossRows, domesticRows, same, firstPresent, stepped, speedOf}
 use Rattle.categories.specs.Brakes.{deductionOf, marginFor}
 use Rattle.categories.specs.WholeLength.{wholeDeductionOf, wholeMarginFor}
 use Rattle.categories.specs.declared.category.Category.{Category}
@@ -20,9 +23,29 @@ use Rattle.categories.proofs.Deductions as deductions
 pub category-table :
     (map (λ (c : Category). c .number) crossRows ≡ 1 ∷ 2 ∷ 3 ∷ 4 ∷ 5 ∷ [])
     × (map (λ (c : Category). c .speed) crossRows ≡ 120 ∷ 100 ∷ 100 ∷ 100 ∷ 90 ∷ [])
-    × (map (λ (c : Category). c .percentage) crossRows ≡ 77 ∷ 60 ∷ 60 ∷ 57 ∷ 50 ∷ [])
-    × (map (λ (c : Category). c .column) crossRows ≡ 0 ∷ 1 ∷ 2 ∷ 2 ∷ 3 ∷ [])
+    × (map (λ (c : Category). c .percentage) crossRows ≡ map same (77 ∷ 60 ∷ 60 ∷ 57 ∷ 50 ∷ []))
+    × (map (λ (c : Category). c .column) crossRows ≡ map suc (0 ∷ 1 ∷ 2 ∷ 2 ∷ 3 ∷ []))
 category-table = (refl, refl, refl, refl)
+
+-- ---- a cross-border category has the line and the percentage that it had before request Six
+-- its column counts from ME120 among the five that its order has, whatever stands for ME140
+pub cross-line-kept : (n : ℕ) (me140 : ℕ) (limits : List ℕ) → firstPresent (drop (suc n) (me140 ∷ limits)) ≡ firstPresent (drop n limits)
+cross-line-kept n me140 limits = refl
+
+-- its percentage is the table's at every train length
+pub cross-percentage-kept : (p length : ℕ) → stepped (same p) length ≡ p
+cross-percentage-kept p length = go (length atMost 0)
+  where
+    go : (b : Bool) → cond b p (cond b p (cond b p p)) ≡ p
+    go true = refl
+    go false = refl
+
+-- ---- the six domestic categories, column by column of the table
+pub domestic-table :
+    (map (λ (c : Category). c .number) domesticRows ≡ 1 ∷ 2 ∷ 3 ∷ 4 ∷ 5 ∷ 6 ∷ [])
+    × (map (λ (c : Category). c .speed) domesticRows ≡ 140 ∷ 120 ∷ 100 ∷ 100 ∷ 90 ∷ 80 ∷ [])
+    × (map (λ (c : Category). c .column) domesticRows ≡ 0 ∷ 1 ∷ 2 ∷ 3 ∷ 4 ∷ 5 ∷ [])
+domestic-table = (refl, refl, refl)
 
 -- no line and no record gives a category more than its own speed
 pub own-speed-most : (c : Category) (f : Facts) (o : Order) → speedOf c f o ≤ c .speed

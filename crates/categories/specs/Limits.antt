@@ -1,14 +1,24 @@
--- k and what brakes: the length that k counts at its limits and one above, and what M counts.
+-- k and what brakes: the length that k counts at its limits and one above, and what M counts; the percentages by train length at their ends and one above.
 use Prim.Native.Nat.{ℕ}
-use mathlib.Core.List.{List, [], _∷_}
-use Rattle.facts.specs.Named.{hauledLength, hauledVLength, vmass, mmass, facts}
+use mathlib.Core.List.{List, [], _∷_, _++_, map}
+use Rattle.facts.specs.Named.{hauledLength, hauledVLength, trainLength, vmass, mmass, enginesMMass, wagonsVMass, facts}
 use Rattle.facts.specs.declared.Facts.{Facts}
-use Rattle.categories.specs.Categories.{crossRows, categoryOf}
+use Rattle.categories.specs.Categories.{crossRows, domesticRows, stepped, categoryOf}
 use Rattle.categories.specs.Brakes.{begunOf, brakedOf}
 
--- V masses 1,000, M masses 400, a hauled part of 700 m and this much said to be set to V
+-- V masses 1,000, M masses 400, of them 300 of engines, 200 the V masses of wagons set to M, a hauled part of 700 m and this much said to be set to V
 abbrev braking : ℕ → Facts
-braking vLength = facts ((vmass, 1000) ∷ (mmass, 400) ∷ (hauledLength, 7000) ∷ (hauledVLength, vLength) ∷ []) []
+braking vLength = facts ((vmass, 1000) ∷ (mmass, 400) ∷ (enginesMMass, 300) ∷ (wagonsVMass, 200) ∷ (hauledLength, 7000) ∷ (hauledVLength, vLength) ∷ []) []
+
+-- a domestic category's percentage at these train lengths
+abbrev percentages : ℕ → List ℕ → List ℕ
+percentages n lengths = map (λ length. stepped (categoryOf n domesticRows .percentage) length) lengths
+
+abbrev meEnds : List ℕ
+meEnds = 5500 ∷ 5501 ∷ 6500 ∷ 6501 ∷ 7500 ∷ 7501 ∷ []
+
+abbrev maEnds : List ℕ
+maEnds = 8000 ∷ 8001 ∷ 9000 ∷ 9001 ∷ 10000 ∷ 10001 ∷ []
 
 abbrev pub atLimits : List ℕ
 atLimits =
@@ -22,10 +32,28 @@ atLimits =
     ∷ brakedOf (categoryOf 1 crossRows) (braking 7000)
     ∷ brakedOf (categoryOf 1 crossRows) (braking 7001)
     ∷ brakedOf (categoryOf 4 crossRows) (braking 5201)
-    ∷ []
+    -- in ME the whole M mass of engines and three quarters of the V mass of wagons, in MA the whole M mass; nothing deducted
+    ∷ brakedOf (categoryOf 1 domesticRows) (braking 7000)
+    ∷ brakedOf (categoryOf 3 domesticRows) (braking 7000)
+    ∷ brakedOf (categoryOf 4 domesticRows) (braking 7000)
+    ∷ brakedOf (categoryOf 6 domesticRows) (braking 7000)
+    -- p by train length
+    ∷ percentages 1 meEnds
+    ++ percentages 2 meEnds
+    ++ percentages 3 meEnds
+    ++ percentages 4 maEnds
+    ++ percentages 5 maEnds
+    ++ percentages 6 maEnds
 
 abbrev pub expected : List ℕ
 expected =
     0 ∷ 1 ∷ 1 ∷ 2
     ∷ 1274 ∷ 1170 ∷ 1170 ∷ 1400
+    ∷ 1450 ∷ 1450 ∷ 1400 ∷ 1400
+    ∷ 97 ∷ 102 ∷ 102 ∷ 108 ∷ 108 ∷ 108
+    ∷ 77 ∷ 81 ∷ 81 ∷ 86 ∷ 86 ∷ 94
+    ∷ 60 ∷ 63 ∷ 63 ∷ 66 ∷ 66 ∷ 73
+    ∷ 57 ∷ 64 ∷ 64 ∷ 69 ∷ 69 ∷ 69
+    ∷ 50 ∷ 57 ∷ 57 ∷ 61 ∷ 61 ∷ 61
+    ∷ 47 ∷ 55 ∷ 55 ∷ 59 ∷ 59 ∷ 59
     ∷ []

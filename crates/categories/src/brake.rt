@@ -32,6 +32,7 @@ pub fn deduction(w: Weigh, f: Facts) -> u8
     match w {
         Weigh::ThreeQuarters => held(begun(f.hauledVLength)),
         Weigh::Whole => 0,
+        Weigh::Long => 0,
     }
 }
 
@@ -49,6 +50,11 @@ pub fn parts(w: Weigh, f: Facts) -> Braked
             set: f.vmass,
             whole: f.mmass,
             reduced: 0,
+        },
+        Weigh::Long => Braked {
+            set: f.vmass,
+            whole: f.enginesMMass,
+            reduced: f.wagonsVMass,
         },
     }
 }

@@ -24,7 +24,7 @@ use Rattle.account.specs.declared.Answer as account-answer
 use Rattle.account.specs.declared.Answer.the-variants as account-case
 use Rattle.lists.proofs.Figures.{leading-le}
 use Rattle.lists.proofs.Lists.{neither}
-use Rattle.sections.specs.Sections.{askedIn, goodSection, leadingGood}
+use Rattle.sections.specs.Sections.{askedIn, bookNamedIn, goodSection, leadingGood}
 use Rattle.judge.specs.Answers.{numberOf, placeOf, trainAround, trainRefusals, trainAnswer, accountAround, accountRefusals, accountAnswer, orderRefusals, trainShape, engineShape}
 use Rattle.judge.specs.declared.Answer.{Answer}
 use Rattle.judge.specs.declared.Answer.the-variants.{Done, NotWhole, TooMany, BadField, BadOrder, ShortSheet, AboveCeiling, NotWorking, WorkingBehind, ManyEngines, NothingHauled}
@@ -94,7 +94,7 @@ account-place answer bs hauled order room e =
 
 -- on a route more than 64 sections are refused before the place of one is given
 section-in : (orders : List ℕ) → leadingGood orders ≤ recordCount orders
-section-in orders = omega (arith, leading-le (goodSection (askedIn orders)) (recordsOf orders), length-records (recordCount orders) orders)
+section-in orders = omega (arith, leading-le (goodSection (askedIn orders) (bookNamedIn orders)) (recordsOf orders), length-records (recordCount orders) orders)
 
 abbrev noSections : List ℕ → Bool
 noSections orders = not (isWhole orders) || recordCount orders is 0 || recordCount orders above 64

@@ -51,6 +51,7 @@ pub record AtMost (n : ℕ) (e : Engines) : Type 0 where
   pub vaxles : e .vaxles ≤ 24 * n
   pub dloads : e .dloads ≤ n
   pub isolated : e .isolated ≤ n
+  pub slowest : e .slowest ≤ 200
 
 -- a vehicle is set to V or to M, and not to both
 one-setting : (s v m : ℕ) → v ≤ 2500 → m ≤ 2500 → cond (eqb s 2) v 0 + cond (eqb s 1) m 0 ≤ 2500
@@ -74,6 +75,7 @@ small-vehicle r g =
       vaxles = omega (arith, cond-le (isV v) (v .axles) 24 (at-most r g 5 (omega arith)));
       dloads = omega (arith, cond-le (hasDLoad v) 1 1 (omega arith));
       isolated = omega (arith, cond-le (isIsolated v) 1 1 (omega arith));
+      slowest = omega arith;
     }
 
 small-none : AtMost 1 (enginesOf [])

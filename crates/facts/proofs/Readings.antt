@@ -1,12 +1,21 @@
--- What the figures say of the records: rules 19, 20, 43 and 44. Assumes nothing.
-use mathlib.Core.Path.{_≡_, refl}
-use mathlib.Core.List.{List, reverse}
-use Rattle.lists.specs.Words.{_is_}
-use Rattle.record.specs.Vehicles.{isIsolated}
+-- What the figures say of the records: rules 19, 20, 43, 44 and 67, and the long locomotive. Assumes nothing.
+use Prim.Native.Nat.{ℕ, suc, _+_, _≤_}
+use native.Mathlib.Omega.{arith}
+use native.Mathlib.Decide.{decLe}
+use mathlib.Core.Path.{_≡_, refl, sym, ap, ap₂, _∙_}
+use mathlib.Core.Bool.{Bool, true, false, not, _&&_, _||_, cond}
+use mathlib.Core.List.{List, [], _∷_, reverse}
+use lib.ListN.{length}
+use borrow.Author.Tests.{eq-eqb, ne-eqb, lt-ltb, le-ltb}
+use Rattle.lists.specs.Words.{_is_, _above_, all, Every}
+use Rattle.lists.specs.Figures.{count, some}
+use Rattle.record.specs.Vehicles.{isWagon, isHauledEngine, isIsolated, isM}
 use Rattle.record.specs.declared.vehicle.Vehicle.{Vehicle}
 use Rattle.lists.proofs.Figures.{first-leading, some-firsts, some-after}
 use Rattle.account.specs.Accounts.{accountOf}
-use Rattle.facts.specs.Readings.{firstIsolated, firstIsolatedBy, lastIsolated, lastIsolatedBy, firstFiveV, firstFiveVBy, afterFifthM, afterFifthMBy}
+use Rattle.account.specs.Groupings.{Hauled}
+use Rattle.facts.specs.Engines.{enginesOf}
+use Rattle.facts.specs.Readings.{firstIsolated, firstIsolatedBy, lastIsolated, lastIsolatedBy, firstFiveV, firstFiveVBy, afterFifthM, afterFifthMBy, isLong, isLongBy, fewWagons, fewWagonsBy}
 
 -- what 19, 20, 43 and 44 ask of runs and settings, read off the figures, is what they ask over the records
 pub rule-19 : (hauled : List Vehicle) → firstIsolated hauled ≡ firstIsolatedBy (accountOf hauled)
@@ -24,3 +33,38 @@ rule-43 hauled = some-firsts (λ s. s is 2) (λ (v : Vehicle). v .setting) 4 ref
 pub rule-44 : (hauled : List Vehicle) → afterFifthM hauled ≡ afterFifthMBy (accountOf hauled)
 unfolding accountOf
 rule-44 hauled = some-after (λ s. s is 1) (λ (v : Vehicle). v .setting) 4 refl 5 hauled
+
+-- braked as a long locomotive, over the records and over the engines and the figures
+all-some : {A : Type 0} (p : A → Bool) (xs : List A) → all p xs ≡ not (some (λ x. not (p x)) xs)
+unfolding all
+all-some p [] = refl
+all-some p (x ∷ xs) = go (p x) (all-some p xs)
+  where
+    go : (b : Bool) → all p xs ≡ not (some (λ x. not (p x)) xs) → (b && all p xs) ≡ not (not b || some (λ x. not (p x)) xs)
+    go true e = e
+    go false e = refl
+
+pub long-agrees : (working hauled : List Vehicle) → isLong working hauled ≡ isLongBy (enginesOf working) (accountOf hauled)
+unfolding accountOf enginesOf
+long-agrees working hauled =
+    ap₂ (λ (x y : Bool). x && not y) (all-some isM working) (some-firsts (λ s. s is 2 || s is 3) (λ (v : Vehicle). v .setting) 4 refl 5 hauled)
+
+-- what is hauled is a wagon or a hauled engine
+kinds : (hauled : List Vehicle) → Every Hauled hauled → length hauled ≡ count isHauledEngine hauled + count isWagon hauled
+kinds [] each = refl
+kinds (v ∷ hauled) each = go (decLe (v .kind) 0) (kinds hauled (each .1))
+  where
+    go : Dec (v .kind ≤ 0) → length hauled ≡ count isHauledEngine hauled + count isWagon hauled → suc (length hauled) ≡ count isHauledEngine (v ∷ hauled) + count isWagon (v ∷ hauled)
+    go (yes h) e = rw (eq-eqb (v .kind) 0 (omega arith), ne-eqb (v .kind) 1 (λ z. omega arith)) (omega arith)
+    go (no h) e = rw (ne-eqb (v .kind) 0 (λ z. omega arith), eq-eqb (v .kind) 1 (omega (arith, each .0))) (omega arith)
+
+few : (n e w : ℕ) → n ≡ e + w → (2 above w) ≡ (e + 2 above n)
+few n e w q = go (decLe 2 w)
+  where
+    go : Dec (2 ≤ w) → (2 above w) ≡ (e + 2 above n)
+    go (yes h) = le-ltb w 2 h ∙ sym (le-ltb n (e + 2) (omega arith))
+    go (no h) = lt-ltb w 2 (omega arith) ∙ sym (lt-ltb n (e + 2) (omega arith))
+
+pub rule-67 : (hauled : List Vehicle) → Every Hauled hauled → fewWagons hauled ≡ fewWagonsBy (accountOf hauled)
+unfolding accountOf
+rule-67 hauled each = few (length hauled) (count isHauledEngine hauled) (count isWagon hauled) (kinds hauled each)

@@ -10,12 +10,13 @@ use borrow.Author.Tests.{eq-eqb, ne-eqb}
 use Rattle.lists.specs.Words.{leading, Every}
 use Rattle.record.specs.Vehicles.{isWagon, isHauledEngine, isWorking, isIsolated, isM, isV, isR, isJoined, hasMatrossow, hasDLoad}
 use Rattle.record.specs.declared.vehicle.Vehicle.{Vehicle}
-use Rattle.lists.specs.Figures.{sum, count, some, firstIs, longest, behind}
+use Rattle.lists.specs.Figures.{sum, count, some, firstIs, longest, behind, least}
 use Rattle.account.specs.Accounts.{accountOf}
-use Rattle.facts.specs.Readings.{firstIsolated, lastIsolated, firstFiveV, afterFifthM}
+use Rattle.account.specs.Groupings.{Hauled}
+use Rattle.facts.specs.Readings.{firstIsolated, lastIsolated, firstFiveV, afterFifthM, isLong, fewWagons}
 use Rattle.lists.proofs.Lists.{every-map}
 use Rattle.lists.proofs.Figures.{sum-append, count-append, some-append, least-append, behind-append, some-count, leading-parted, each-none}
-use Rattle.facts.proofs.Readings.{rule-19, rule-20, rule-43, rule-44}
+use Rattle.facts.proofs.Readings.{rule-19, rule-20, rule-43, rule-44, long-agrees, rule-67}
 use Rattle.account.specs.Ceilings.{Within}
 use Rattle.account.specs.declared.Account.{Account}
 use Rattle.account.proofs.Demands.{figure-at, v-length-most}
@@ -65,9 +66,9 @@ module _ (working hauled : List Vehicle) (w : Every Working working) (first : fi
       ∙ ap (λ (b : Bool). b || some (λ v. isWagon v && hasMatrossow v && not (isIsolated v)) hauled)
       (none (λ v. isWagon v && hasMatrossow v && not (isIsolated v)) (λ v k. ap (λ (b : Bool). b && hasMatrossow v && not (isIsolated v)) (not-wagon v k)) working w)
 
-  pub facts-same : factsOf (working ++ hauled) ≡ factsBeside working (accountOf hauled)
+  pub facts-same : Every Hauled hauled → factsOf (working ++ hauled) ≡ factsBeside working (accountOf hauled)
   unfolding factsOf besideOf enginesOf accountOf
-  facts-same =
+  facts-same each =
       λ i.
       record {
         hauledMass = sum (λ v. v .mass) (rest-is i);
@@ -94,6 +95,13 @@ module _ (working hauled : List Vehicle) (w : Every Working working) (first : fi
         slowest = least-append 200 (λ v. v .speed) working hauled i;
         dloads = count-append hasDLoad working hauled i;
         isolated = count-append isIsolated working hauled i;
+        enginesMMass = sum (λ v. cond (isM v) (v .mmass) 0) (engines-are i) + sum (λ v. cond (isHauledEngine v && isM v) (v .mmass) 0) (rest-is i);
+        wagonsVMass = sum (λ v. cond (isWagon v && isM v) (v .vmass) 0) (rest-is i);
+        hauledEngineNotM = some (λ v. isHauledEngine v && not (isM v)) (rest-is i);
+        long = (ap₂ isLong engines-are rest-is ∙ long-agrees working hauled) i;
+        fewWagons = (ap fewWagons rest-is ∙ rule-67 hauled each) i;
+        slowestHauled = least 200 (λ v. v .speed) (rest-is i);
+        slowestWorking = least 200 (λ v. v .speed) (engines-are i);
       }
 
 -- ---- what the facts are at most, and that they then stand as they are
@@ -110,6 +118,10 @@ beside-bounded e a p w =
       slowest = omega (arith, figure-at a w 14);
       dloads = omega (arith, p .dloads, figure-at a w 10);
       isolated = omega (arith, p .isolated, figure-at a w 9);
+      enginesBraked = omega (arith, p .braked, figure-at a w 2, figure-at a w 21);
+      wagonsBraked = figure-at a w 22;
+      slowestHauled = figure-at a w 14;
+      slowestWorking = p .slowest;
     }
 
 pub held-is : (f : Facts) → Bounded f → held f ≡ f
@@ -141,6 +153,13 @@ held-is f b =
       slowest = tiny (f .slowest) (omega (arith, b .slowest)) i;
       dloads = tiny (f .dloads) (omega (arith, b .dloads)) i;
       isolated = tiny (f .isolated) (omega (arith, b .isolated)) i;
+      enginesMMass = small (f .enginesMMass) (omega (arith, b .enginesBraked)) i;
+      wagonsVMass = f .wagonsVMass;
+      hauledEngineNotM = f .hauledEngineNotM;
+      long = f .long;
+      fewWagons = f .fewWagons;
+      slowestHauled = tiny (f .slowestHauled) (omega (arith, b .slowestHauled)) i;
+      slowestWorking = tiny (f .slowestWorking) (omega (arith, b .slowestWorking)) i;
     }
   where
     small : (x : ℕ) → x < 4294967296 → x % 4294967296 ≡ x

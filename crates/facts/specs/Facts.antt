@@ -8,7 +8,7 @@ use Rattle.lists.specs.Words.{_above_, leading}
 use Rattle.record.specs.Vehicles.{isWagon, isHauledEngine, isWorking, isIsolated, isM, isV, isR, isJoined, hasMatrossow, hasDLoad}
 use Rattle.record.specs.declared.vehicle.Vehicle.{Vehicle}
 use Rattle.lists.specs.Figures.{sum, count, some, longest, behind, least}
-use Rattle.facts.specs.Readings.{firstIsolated, firstIsolatedBy, lastIsolated, lastIsolatedBy, firstFiveV, firstFiveVBy, afterFifthM, afterFifthMBy}
+use Rattle.facts.specs.Readings.{firstIsolated, firstIsolatedBy, lastIsolated, lastIsolatedBy, firstFiveV, firstFiveVBy, afterFifthM, afterFifthMBy, isLong, isLongBy, fewWagons, fewWagonsBy}
 use Rattle.account.specs.declared.Account.{Account}
 use Rattle.facts.specs.Engines.{enginesOf}
 use Rattle.facts.specs.declared.Facts.{Facts}
@@ -55,6 +55,14 @@ factsOf train =
       slowest = least 200 (λ v. v .speed) train;
       dloads = count hasDLoad train;
       isolated = count isIsolated train;
+      -- request Six: M masses of engines set to M, working and hauled; V masses of wagons set to M
+      enginesMMass = sum (λ v. cond (isM v) (v .mmass) 0) (workingOf train) + sum (λ v. cond (isHauledEngine v && isM v) (v .mmass) 0) (hauledOf train);
+      wagonsVMass = sum (λ v. cond (isWagon v && isM v) (v .vmass) 0) (hauledOf train);
+      hauledEngineNotM = some (λ v. isHauledEngine v && not (isM v)) (hauledOf train);
+      long = isLong (workingOf train) (hauledOf train);
+      fewWagons = fewWagons (hauledOf train);
+      slowestHauled = least 200 (λ v. v .speed) (hauledOf train);
+      slowestWorking = least 200 (λ v. v .speed) (workingOf train);
     }
 
 -- beside the engines' figures, the facts that an account's figures give
@@ -85,6 +93,13 @@ besideOf e a =
       slowest = min (e .slowest) (a .slowest);
       dloads = e .dloads + a .dloads;
       isolated = e .isolated + a .isolated;
+      enginesMMass = e .mmass + a .enginemmass;
+      wagonsVMass = a .wagonvmass;
+      hauledEngineNotM = a .enginenotm;
+      long = isLongBy e a;
+      fewWagons = fewWagonsBy a;
+      slowestHauled = a .slowest;
+      slowestWorking = e .slowest;
     }
 
 abbrev pub factsBeside : List Vehicle → Account → Facts
@@ -97,7 +112,7 @@ word x = x % 4294967296
 abbrev pub byte : ℕ → ℕ
 byte x = x % 256
 
--- the facts as they are held: every sum in 32 bits, speed, D loads and isolated records in a byte; those of any train or account that is judged stand as they are
+-- the facts as they are held: every sum in 32 bits, speeds, D loads and isolated records in a byte; those of any train or account that is judged stand as they are
 unfoldable pub held : Facts → Facts
 held f =
     record {
@@ -125,6 +140,13 @@ held f =
       slowest = byte (f .slowest);
       dloads = byte (f .dloads);
       isolated = byte (f .isolated);
+      enginesMMass = word (f .enginesMMass);
+      wagonsVMass = f .wagonsVMass;
+      hauledEngineNotM = f .hauledEngineNotM;
+      long = f .long;
+      fewWagons = f .fewWagons;
+      slowestHauled = byte (f .slowestHauled);
+      slowestWorking = byte (f .slowestWorking);
     }
 
 -- what the facts of a good train, and of engines beside an account within its ceilings, are at most
@@ -138,3 +160,7 @@ pub record Bounded (f : Facts) : Type 0 where
   pub slowest : f .slowest ≤ 200
   pub dloads : f .dloads ≤ 202
   pub isolated : f .isolated ≤ 202
+  pub enginesBraked : f .vmass + f .enginesMMass ≤ 1005000
+  pub wagonsBraked : f .wagonsVMass ≤ 500000
+  pub slowestHauled : f .slowestHauled ≤ 200
+  pub slowestWorking : f .slowestWorking ≤ 200

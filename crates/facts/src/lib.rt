@@ -1,10 +1,10 @@
 // The facts of a train that the rules and the sheet read, from its working engines and an account of what they haul.
 ghost use mathlib.Core.Path.{_≡_};
-ghost use mathlib.Core.Bool.{cond};
+ghost use mathlib.Core.Bool.{not, _&&_, _||_, cond};
 ghost use Prim.Native.Nat.{_+_, _%_, _≤_, min};
 ghost use Rattle.lists.specs.Words.{_is_};
-ghost use Rattle.lists.specs.Figures.{count};
-ghost use Rattle.facts.specs.Readings.{firstFiveVBy};
+ghost use Rattle.lists.specs.Figures.{count, some};
+ghost use Rattle.facts.specs.Readings.{firstFiveVBy, fewWagonsBy};
 ghost use Rattle.facts.specs.Engines.{bothOf, enginesIn};
 ghost use Rattle.facts.specs.Facts.{besideOf, factsBeside, held};
 use crate::engine::Engines;
@@ -47,6 +47,16 @@ pub struct Facts {
     pub slowest: u8,
     pub dloads: u8,
     pub isolated: u8,
+    // request Six: M masses of engines set to M, V masses of wagons set to M
+    pub enginesMMass: u32,
+    pub wagonsVMass: u32,
+    // a hauled engine not set to M, braked as a long locomotive, fewer than two wagons
+    pub hauledEngineNotM: bool,
+    pub long: bool,
+    pub fewWagons: bool,
+    // of the hauled, and of the working engines
+    pub slowestHauled: u8,
+    pub slowestWorking: u8,
 }
 
 // A sum of two engines' figures and an account's, in 32 bits.
@@ -63,11 +73,11 @@ fn small_figure(x: u32, y: u32, z: u32) -> u8
     ((x as u64 + y as u64 + z as u64) % 256) as u8
 }
 
-// The least of three, in a byte.
-fn least(x: u32, y: u32, z: u32) -> u8
-    ensures { λ r. ⌜ r ≡ min (min x y) z % 256 ⌝ }
+// The lesser of two, in a byte.
+fn least(x: u32, y: u32) -> u8
+    ensures { λ r. ⌜ r ≡ min x y % 256 ⌝ }
 {
-    (lesser(lesser(x, y), z) % 256) as u8
+    (lesser(x, y) % 256) as u8
 }
 
 fn first_five_v(a: Account) -> bool
@@ -95,6 +105,32 @@ fn first_five_m(a: Account) -> u32
         + one_if(first[4] == 1)
 }
 
+fn v_or_r(setting: u32) -> bool
+    ensures { λ r. ⌜ r ≡ (setting is 2 || setting is 3) ⌝ }
+{
+    (setting == 2) | (setting == 3)
+}
+
+// Braked as a long locomotive: every working engine set to M, none of the first five set to V or R (000, 1403.2).
+fn is_long(working_not_m: bool, a: Account) -> bool
+    ensures { λ r. ⌜ r ≡ (not «working_not_m» && not (some (λ s. s is 2 || s is 3) (a .first))) ⌝ }
+{
+    let first = a.first;
+    !working_not_m
+        & !(v_or_r(first[0])
+            | v_or_r(first[1])
+            | v_or_r(first[2])
+            | v_or_r(first[3])
+            | v_or_r(first[4]))
+}
+
+// Fewer than 2 wagons.
+fn few_wagons(a: Account) -> bool
+    ensures { λ r. ⌜ r ≡ fewWagonsBy a ⌝ }
+{
+    (a.count as u64) < a.engines as u64 + 2
+}
+
 fn beside(e: Engines, s: Engines, a: Account) -> Facts
     ensures { λ r. ⌜ r ≡ held (besideOf (bothOf e s) a) ⌝ }
 {
@@ -120,9 +156,16 @@ fn beside(e: Engines, s: Engines, a: Account) -> Facts
         setR: e.setr | s.setr | a.rule16,
         notJoined: e.unjoined | s.unjoined | a.rule17,
         matrossow: a.rule18,
-        slowest: least(e.slowest, s.slowest, a.slowest),
+        slowest: least(lesser(e.slowest, s.slowest), a.slowest),
         dloads: small_figure(e.dloads, s.dloads, a.dloads),
         isolated: small_figure(e.isolated, s.isolated, a.isolated),
+        enginesMMass: figure(e.mmass, s.mmass, a.enginemmass),
+        wagonsVMass: a.wagonvmass,
+        hauledEngineNotM: a.enginenotm,
+        long: is_long(e.notm | s.notm, a),
+        fewWagons: few_wagons(a),
+        slowestHauled: (a.slowest % 256) as u8,
+        slowestWorking: least(e.slowest, s.slowest),
     }
 }
 

@@ -8,18 +8,20 @@ use Rattle.closing.specs.Closing.{closes}
 use Rattle.record.specs.Vehicles.{good, vehicle}
 use Rattle.margin.specs.Margin.{fourfold, marginOf}
 use Rattle.order.specs.Orders.{goodOrder, orderOf}
+use Rattle.order.specs.declared.Book.the-variants.{CrossBorder}
 use Rattle.facts.specs.Facts.{factsOf}
-use Rattle.categories.specs.Categories.{lineSpeed, speedOf}
+use Rattle.categories.specs.Categories.{lineSpeed, speedOf, percentageOf}
 use Rattle.categories.specs.Brakes.{marginFor, brakedOf}
 use Rattle.rules.specs.Rules.{termsOf}
 use Rattle.rules.specs.Books.{brokenBy}
 use Rattle.rules.specs.CrossBorder.{crossBorder}
+use Rattle.books.specs.Books.{bookOf}
 use Rattle.rules.specs.Grants.{offerOf, grantedOf, decisionOf}
-use Rattle.sheets.specs.Sheets.{sheetLength, figuresOf}
+use Rattle.sheets.specs.Sheets.{sheetLength, figuresOf, sheetOf}
 use Rattle.sheets.specs.Cases.{trainA, orderA, sheetA}
 use Rattle.judge.specs.Answers.{numberOf, placeOf, trainRefusals, trainAnswer, trainSheet, sheetFor}
 
 -- number 0, place 0, and the 32 bytes that document 01 prints
-pub case-a : (numberOf (trainAnswer trainA orderA sheetLength) ≡ 0) × (placeOf (trainAnswer trainA orderA sheetLength) ≡ 0) × (trainSheet trainA orderA (replicate sheetLength 0) ≡ sheetA)
-unfolding trainRefusals sheetFor all good closes goodOrder figuresOf decisionOf grantedOf offerOf factsOf orderOf vehicle records littleEndian crossBorder brokenBy marginFor brakedOf termsOf marginOf fourfold lineSpeed speedOf
+pub case-a : (numberOf (trainAnswer trainA orderA (sheetLength CrossBorder)) ≡ 0) × (placeOf (trainAnswer trainA orderA (sheetLength CrossBorder)) ≡ 0) × (trainSheet trainA orderA (replicate (sheetLength CrossBorder) 0) ≡ sheetA)
+unfolding trainRefusals sheetFor all good closes goodOrder figuresOf decisionOf grantedOf offerOf factsOf orderOf vehicle records littleEndian crossBorder brokenBy marginFor brakedOf termsOf marginOf fourfold lineSpeed speedOf percentageOf sheetOf bookOf
 case-a = (refl, refl, refl)

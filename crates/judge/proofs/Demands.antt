@@ -17,16 +17,21 @@ use Rattle.account.specs.declared.Account.{Account}
 use Rattle.account.specs.declared.Accounted.{Accounted}
 use Rattle.account.specs.declared.Answer.the-variants.{Done as Accepted}
 use Rattle.account.proofs.Demands.{any-grouping-of-bytes, any-grouping-done, portion-done-exactly}
-use Rattle.order.specs.Orders.{orderOf}
+use Rattle.record.specs.Ranges.{inRanges}
+use Rattle.order.specs.Orders.{crossBorderFields, fieldsOf, goodOrder, orderOf}
+use Rattle.order.specs.declared.Book.{Book}
+use Rattle.order.specs.declared.Book.the-variants.{CrossBorder, Domestic}
 use Rattle.order.specs.declared.Order.{Order}
 use Rattle.facts.specs.Engines.{GoodEngines}
 use Rattle.facts.specs.Facts.{factsOf, besideOf, factsBeside, Bounded}
 use Rattle.facts.specs.declared.Facts.{Facts}
+use Rattle.rules.specs.CrossBorder.{crossBorder}
 use Rattle.rules.specs.Withdrawn.{formerBook, longer}
 use Rattle.rules.proofs.Demands.{train-not-longer, account-not-longer}
-use Rattle.sheets.specs.Sheets.{sheetOf}
+use Rattle.books.specs.Books.{bookOf}
+use Rattle.sheets.specs.Sheets.{sheetLength, sheetOf}
 use Rattle.sheets.proofs.Demands.{sheet-kept}
-use Rattle.judge.specs.Answers.{numberOf, placeOf, isDone, orderRefusals, recordRefusals, trainShape, trainAround, trainRefusals, trainAnswer, trainSheet, engineRefusals, engineShape, accountAround, accountRefusals, accountAnswer, accountSheet, sheetFor, written}
+use Rattle.judge.specs.Answers.{numberOf, placeOf, isDone, orderTests, orderRefusals, recordRefusals, trainShape, trainAround, trainRefusals, trainAnswer, trainSheet, engineRefusals, engineShape, accountAround, accountRefusals, accountAnswer, accountSheet, sheetFor, written}
 use Rattle.judge.specs.Judging.{Refusing, lentAs, trainJudged, accountJudged, judgedBy}
 use Rattle.judge.specs.Shown.{Shows}
 use Rattle.judge.specs.declared.Answer.{Answer}
@@ -38,6 +43,7 @@ use Rattle.judge.proofs.Engines.{engineAnswer, engines-refusing}
 use Rattle.judge.proofs.Trains as trains
 use Rattle.judge.proofs.Trains.{recordAnswer, records-refusing}
 use Rattle.judge.proofs.Joint.{answers-same, facts-joint}
+use Rattle.judge.proofs.Sheets as sheets
 use Rattle.judge.proofs.Sheets.{sheet-long}
 use Rattle.judge.proofs.Shown.{shows-done}
 
@@ -124,8 +130,18 @@ refused-unwritten answer bytes sheet e = rw e
 pub done-written : (bytes sheet : List ℕ) → written Done bytes sheet ≡ bytes ++ drop (length bytes) sheet
 done-written bytes sheet = refl
 
-pub thirty-two : (f : Facts) (o : Order) → length (sheetFor f o) ≡ 32
-thirty-two = sheet-long
+-- 32 bytes of a cross-border sheet, 33 of a domestic one
+pub sheet-bytes : (f : Facts) (o : Order) → length (sheetFor f o) ≡ sheetLength (o .book)
+sheet-bytes = sheet-long
+
+pub thirty-two : (f : Facts) (o : Order) → o .book ≡ CrossBorder → length (sheetFor f o) ≡ 32
+thirty-two f o e = sheet-long f o ∙ ap sheetLength e
+
+pub thirty-three : (f : Facts) (o : Order) → o .book ≡ Domestic → length (sheetFor f o) ≡ 33
+thirty-three f o e = sheet-long f o ∙ ap sheetLength e
+
+pub length-most : (b : Book) → sheetLength b ≤ 33
+length-most = sheets.length-most
 
 -- so of a whole train, and of engines with an account
 pub train-refused : (bs order sheet : List ℕ) → isDone (trainAnswer bs order (length sheet)) ≡ false → trainSheet bs order sheet ≡ sheet
@@ -192,23 +208,48 @@ module _ (engines : List ℕ) (g : Grouping ℕ) (order sheet : List ℕ) (e : G
       portion-done : GoodPortion (uncut g) → accounted (uncut g) .answer ≡ Accepted
       portion-done good = ap (λ (r : Accounted). r .answer) (portion-done-exactly (uncut g) .1 good)
 
--- ---- rule 46, withdrawn by request Five: no byte of a train's sheet is another than by the former list
-pub train-sheet-kept : (bs order sheet : List ℕ)
-    → written (trainAnswer bs order (length sheet)) (sheetOf formerBook (factsOf (vehicles bs)) (orderOf order)) sheet ≡ trainSheet bs order sheet
-unfolding sheetFor
-train-sheet-kept bs order sheet =
-    ap (λ (bytes : List ℕ). written (trainAnswer bs order (length sheet)) bytes sheet) (sheet-kept (factsOf (vehicles bs)) (train-not-longer (vehicles bs)) (orderOf order))
+-- ---- a cross-border order is answered as before request Six, and gives the bytes that it gave
+module _ (order : List ℕ) (cross : orderOf order .book ≡ CrossBorder) where
+  -- its table and the 32 bytes decide 4 and 5
+  pub cross-order-kept : (room : ℕ) → orderRefusals order room ≡ orderTests (inRanges crossBorderFields order) 32 room
+  unfolding goodOrder orderOf
+  cross-order-kept room = ap (λ (b : Book). orderTests (inRanges (fieldsOf b) order) (sheetLength b) room) cross
 
--- nor of the sheet of engines with any account, save one with more than 700 m set to V in a length of at most 700 m
-pub account-sheet-kept : (bs : List ℕ) (hauled : Account) (order sheet : List ℕ) → longer (hauled .vlength) (hauled .length) ≡ false
-    → written (accountAnswer bs hauled order (length sheet)) (sheetOf formerBook (factsBeside (vehicles bs) hauled) (orderOf order)) sheet ≡ accountSheet bs hauled order sheet
-unfolding sheetFor besideOf
-account-sheet-kept bs hauled order sheet elsewhere =
-    ap (λ (bytes : List ℕ). written (accountAnswer bs hauled order (length sheet)) bytes sheet) (sheet-kept (factsBeside (vehicles bs) hauled) elsewhere (orderOf order))
+  pub cross-sheet-kept : (f : Facts) → sheetFor f (orderOf order) ≡ sheetOf crossBorder f (orderOf order)
+  unfolding sheetFor bookOf
+  cross-sheet-kept f = ap (λ (b : Book). sheetOf (bookOf b) f (orderOf order)) cross
 
--- so of none with an account that comes from a list
-pub listed-sheet-kept : (bs : List ℕ) (hauled : List Vehicle) (order sheet : List ℕ)
-    → written (accountAnswer bs (accountOf hauled) order (length sheet)) (sheetOf formerBook (factsBeside (vehicles bs) (accountOf hauled)) (orderOf order)) sheet
-    ≡ accountSheet bs (accountOf hauled) order sheet
-unfolding besideOf
-listed-sheet-kept bs hauled order sheet = account-sheet-kept bs (accountOf hauled) order sheet (account-not-longer (vehicles bs) hauled)
+  pub cross-train-kept : (bs sheet : List ℕ)
+      → trainSheet bs order sheet ≡ written (firstOf Done (trainAround bs (orderTests (inRanges crossBorderFields order) 32 (length sheet)))) (sheetOf crossBorder (factsOf (vehicles bs)) (orderOf order)) sheet
+  unfolding trainRefusals
+  cross-train-kept bs sheet =
+      ap₂ (λ (lent : List (Case Answer)) (bytes : List ℕ). written (firstOf Done (trainAround bs lent)) bytes sheet) (cross-order-kept (length sheet)) (cross-sheet-kept (factsOf (vehicles bs)))
+
+  pub cross-account-kept : (bs : List ℕ) (hauled : Account) (sheet : List ℕ)
+      → accountSheet bs hauled order sheet
+      ≡ written (firstOf Done (accountAround bs hauled (orderTests (inRanges crossBorderFields order) 32 (length sheet)))) (sheetOf crossBorder (factsBeside (vehicles bs) hauled) (orderOf order)) sheet
+  unfolding accountRefusals
+  cross-account-kept bs hauled sheet =
+      ap₂ (λ (lent : List (Case Answer)) (bytes : List ℕ). written (firstOf Done (accountAround bs hauled lent)) bytes sheet) (cross-order-kept (length sheet)) (cross-sheet-kept (factsBeside (vehicles bs) hauled))
+
+  -- ---- rule 46, withdrawn by request Five: no byte of a train's sheet is another than by the former list
+  pub train-sheet-kept : (bs sheet : List ℕ)
+      → written (trainAnswer bs order (length sheet)) (sheetOf formerBook (factsOf (vehicles bs)) (orderOf order)) sheet ≡ trainSheet bs order sheet
+  train-sheet-kept bs sheet =
+      ap (λ (bytes : List ℕ). written (trainAnswer bs order (length sheet)) bytes sheet)
+      (sheet-kept (factsOf (vehicles bs)) (train-not-longer (vehicles bs)) (orderOf order) ∙ sym (cross-sheet-kept (factsOf (vehicles bs))))
+
+  -- nor of the sheet of engines with any account, save one with more than 700 m set to V in a length of at most 700 m
+  pub account-sheet-kept : (bs : List ℕ) (hauled : Account) (sheet : List ℕ) → longer (hauled .vlength) (hauled .length) ≡ false
+      → written (accountAnswer bs hauled order (length sheet)) (sheetOf formerBook (factsBeside (vehicles bs) hauled) (orderOf order)) sheet ≡ accountSheet bs hauled order sheet
+  unfolding besideOf
+  account-sheet-kept bs hauled sheet elsewhere =
+      ap (λ (bytes : List ℕ). written (accountAnswer bs hauled order (length sheet)) bytes sheet)
+      (sheet-kept (factsBeside (vehicles bs) hauled) elsewhere (orderOf order) ∙ sym (cross-sheet-kept (factsBeside (vehicles bs) hauled)))
+
+  -- so of none with an account that comes from a list
+  pub listed-sheet-kept : (bs : List ℕ) (hauled : List Vehicle) (sheet : List ℕ)
+      → written (accountAnswer bs (accountOf hauled) order (length sheet)) (sheetOf formerBook (factsBeside (vehicles bs) (accountOf hauled)) (orderOf order)) sheet
+      ≡ accountSheet bs (accountOf hauled) order sheet
+  unfolding besideOf
+  listed-sheet-kept bs hauled sheet = account-sheet-kept bs (accountOf hauled) sheet (account-not-longer (vehicles bs) hauled)

@@ -12,11 +12,13 @@ use Rattle.record.specs.Vehicles.{vehicles}
 use Rattle.account.specs.declared.Account.{Account}
 use Rattle.facts.specs.Facts.{factsOf, factsBeside}
 use Rattle.order.specs.Orders.{goodOrder, orderOf, orderRead}
+use Rattle.order.specs.declared.Book.{Book}
+use Rattle.order.specs.declared.Book.the-variants.{CrossBorder, Domestic}
 use Rattle.order.specs.declared.Order.{Order}
 use Rattle.order.proofs.Demands.{read-good}
 use Rattle.facts.specs.declared.Facts.{Facts}
 use Rattle.sheets.specs.Sheets.{sheetLength}
-use Rattle.sheets.proofs.Demands.{thirty-two}
+use Rattle.sheets.proofs.Demands.{sheet-length}
 use Rattle.judge.specs.Answers.{isDone, orderTests, orderRefusals, recordRefusals, trainShape, trainAround, trainRefusals, trainAnswer, trainSheet, engineRefusals, engineShape, accountAround, accountRefusals, accountAnswer, accountSheet, sheetFor, written}
 use Rattle.judge.specs.Judging.{Refusing, lentAs, trainJudged, accountJudged, judgedBy, answerOf, sheetIn, Roomy}
 use Rattle.judge.specs.declared.Answer.{Answer}
@@ -30,16 +32,26 @@ use Rattle.judge.proofs.Trains as trains
 use Rattle.judge.proofs.Trains.{recordAnswer, records-refusing}
 
 -- ---- the sheet's bytes, laid over the lent ones
-pub sheet-long : (f : Facts) (o : Order) → length (sheetFor f o) ≡ sheetLength
+pub sheet-long : (f : Facts) (o : Order) → length (sheetFor f o) ≡ sheetLength (o .book)
 unfolding sheetFor
-sheet-long f o = thirty-two f o .1
+sheet-long f o = sheet-length (o .book) f o
+
+pub length-most : (b : Book) → sheetLength b ≤ 33
+length-most CrossBorder = omega arith
+length-most Domestic = omega arith
 
 pub laid : (line bytes sheet : List ℕ) → line ≡ bytes → take (length line) line ++ drop (length line) sheet ≡ bytes ++ drop (length bytes) sheet
 laid line bytes sheet e = ap₂ _++_ (take-all (length line) line (omega arith) ∙ e) (ap (λ (n : ℕ). drop n sheet) (ap length e))
 
 -- ---- the order and the room
-pub order-tests : (good : Bool) (order : List ℕ) (room : ℕ) → good ≡ goodOrder order → firstOf Done (orderTests good room) ≡ firstOf Done (orderRefusals order room)
-order-tests good order room e = ap (λ (b : Bool). firstOf Done (orderTests b room)) e
+-- the bytes are asked only of a good order, which is read as its fields say
+pub order-tests : (good : Bool) (order : List ℕ) (o : Order) (bytes room : ℕ) → good ≡ goodOrder order → o ≡ orderRead order → bytes ≡ sheetLength (o .book)
+    → firstOf Done (orderTests good bytes room) ≡ firstOf Done (orderRefusals order room)
+order-tests good order o bytes room e read long = ap (λ (b : Bool). firstOf Done (orderTests b bytes room)) e ∙ go (goodOrder order) refl
+  where
+    go : (b : Bool) → goodOrder order ≡ b → firstOf Done (orderTests b bytes room) ≡ firstOf Done (orderTests b (sheetLength (orderOf order .book)) room)
+    go true g = ap (λ (n : ℕ). firstOf Done (orderTests true n room)) (long ∙ ap (λ (x : Order). sheetLength (x .book)) (read ∙ read-good order g))
+    go false g = refl
 
 pub order-refusing : (order : List ℕ) (room : ℕ) → Refusing (orderRefusals order room)
 order-refusing order room = (refl, (refl, tt))
@@ -54,8 +66,8 @@ module _ (order : List ℕ) (room : ℕ) (done : isDone (firstOf Done (orderRefu
   pub order-read : orderRead order ≡ orderOf order
   order-read = read-good order order-good
 
-  pub order-room : sheetLength ≤ room
-  order-room = ltb-false room sheetLength (passed-order .1 .0)
+  pub order-room : sheetLength (orderRead order .book) ≤ room
+  order-room = subst (λ (o : Order). sheetLength (o .book) ≤ room) (sym order-read) (ltb-false room (sheetLength (orderOf order .book)) (passed-order .1 .0))
 
 -- ---- the three groups of a sheet's refusals
 pub train-groups : (bs order : List ℕ) (room : ℕ) → trainAnswer bs order room ≡ orElse (recordAnswer bs) (orElse (firstOf Done (orderRefusals order room)) (trains.shapeAnswer bs))
@@ -76,10 +88,10 @@ module _ (total a s : Answer) (order sheet : List ℕ) (groups : total ≡ orEls
   lent-done : isDone total ≡ true → isDone (firstOf Done (orderRefusals order (length sheet))) ≡ true
   lent-done d = all-passed total a (firstOf Done (orderRefusals order (length sheet))) s groups d .1
 
-  pub judged-room : Roomy (judgedBy total f) sheet
+  pub judged-room : Roomy (judgedBy total f) (orderRead order) sheet
   judged-room = go (isDone total) refl
     where
-      go : (d : Bool) → isDone total ≡ d → Roomy (cond d (Ready f) (Refused total)) sheet
+      go : (d : Bool) → isDone total ≡ d → Roomy (cond d (Ready f) (Refused total)) (orderRead order) sheet
       go true e = order-room order (length sheet) (lent-done e)
       go false e = tt
 
@@ -110,9 +122,9 @@ module _ (bs order sheet : List ℕ) (y : Answer) (lent : y ≡ firstOf Done (or
       ∙ ap (λ (a : Answer). judgedBy (firstOf Done (trainAround bs (lentAs a))) facts) lent
       ∙ ap (λ (a : Answer). judgedBy a facts) (sym (around-lent (recordRefusals bs) (orderRefusals order (length sheet)) (trainShape (vehicles bs)) (records-refusing bs) (order-refusing order (length sheet))))
 
-  pub train-room : Roomy j sheet
+  pub train-room : Roomy j (orderRead order) sheet
   train-room =
-      subst (λ (x : Judged). Roomy x sheet) (sym train-is)
+      subst (λ (x : Judged). Roomy x (orderRead order) sheet) (sym train-is)
       (judged-room (trainAnswer bs order (length sheet)) (recordAnswer bs) (trains.shapeAnswer bs) order sheet (train-groups bs order (length sheet)) facts)
 
   pub train-answer : answerOf j ≡ trainAnswer bs order (length sheet)
@@ -135,9 +147,9 @@ module _ (bs : List ℕ) (hauled : Account) (order sheet : List ℕ) (y : Answer
       ∙ ap (λ (a : Answer). judgedBy (firstOf Done (accountAround bs hauled (lentAs a))) beside) lent
       ∙ ap (λ (a : Answer). judgedBy a beside) (sym (around-lent (engineRefusals bs hauled) (orderRefusals order (length sheet)) (engineShape (vehicles bs) hauled) (engines-refusing bs hauled) (order-refusing order (length sheet))))
 
-  pub account-room : Roomy j sheet
+  pub account-room : Roomy j (orderRead order) sheet
   account-room =
-      subst (λ (x : Judged). Roomy x sheet) (sym account-is)
+      subst (λ (x : Judged). Roomy x (orderRead order) sheet) (sym account-is)
       (judged-room (accountAnswer bs hauled order (length sheet)) (engineAnswer bs hauled) (engines.shapeAnswer bs hauled) order sheet (account-groups bs hauled order (length sheet)) beside)
 
   pub account-answer : answerOf j ≡ accountAnswer bs hauled order (length sheet)

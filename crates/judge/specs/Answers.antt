@@ -14,7 +14,7 @@ use Rattle.order.specs.Orders.{goodOrder, orderOf}
 use Rattle.order.specs.declared.Order.{Order}
 use Rattle.facts.specs.Facts.{workingOf, hauledOf, factsOf, factsBeside}
 use Rattle.facts.specs.declared.Facts.{Facts}
-use Rattle.rules.specs.CrossBorder.{crossBorder}
+use Rattle.books.specs.Books.{bookOf}
 use Rattle.sheets.specs.Sheets.{sheetLength, sheetOf}
 use Rattle.judge.specs.declared.Answer.{Answer}
 use Rattle.judge.specs.declared.Answer.the-variants.{Done, NotWhole, TooMany, BadField, BadOrder, ShortSheet, AboveCeiling, NotWorking, WorkingBehind, ManyEngines, NothingHauled}
@@ -59,12 +59,12 @@ notWhole bs = refusal NotWhole (length bs is 0 || not (isWhole bs))
 abbrev pub badField : List ℕ → Case Answer
 badField bs = refusal (BadField (leading good (recordsOf bs))) (not (all good (recordsOf bs)))
 
--- of the order and the lent sheet: 4, with place 0, and 5
-abbrev pub orderTests : Bool → ℕ → List (Case Answer)
-orderTests isGood room = refusal (BadOrder 0) (not isGood) ∷ refusal ShortSheet (sheetLength above room) ∷ []
+-- of the order and the lent sheet: 4, with place 0, and 5 for fewer bytes than the sheet will have
+abbrev pub orderTests : Bool → ℕ → ℕ → List (Case Answer)
+orderTests isGood bytes room = refusal (BadOrder 0) (not isGood) ∷ refusal ShortSheet (bytes above room) ∷ []
 
 abbrev pub orderRefusals : List ℕ → ℕ → List (Case Answer)
-orderRefusals order room = orderTests (goodOrder order) room
+orderRefusals order room = orderTests (goodOrder order) (sheetLength (orderOf order .book)) room
 
 -- of a whole train: 1, 2
 abbrev pub countRefusals : List ℕ → List (Case Answer)
@@ -125,9 +125,9 @@ accountRefusals bs hauled order room = accountAround bs hauled (orderRefusals or
 abbrev pub written : Answer → List ℕ → List ℕ → List ℕ
 written answer bytes lent = cond (isDone answer) (bytes ++ drop (length bytes) lent) lent
 
--- the sheet of a train's facts, by the cross-border book
+-- the sheet of a train's facts, by the book that the order names
 unfoldable pub sheetFor : Facts → Order → List ℕ
-sheetFor f o = sheetOf crossBorder f o
+sheetFor f o = sheetOf (bookOf (o .book)) f o
 
 abbrev pub trainAnswer : List ℕ → List ℕ → ℕ → Answer
 trainAnswer bs order room = firstOf Done (trainRefusals bs order room)

@@ -48,9 +48,9 @@ sheetIn (Ready f) o sheet = sheetFor f o ++ drop (length (sheetFor f o)) sheet
 sheetIn (Refused answer) o sheet = sheet
 
 -- where it is ready there is room for its sheet
-abbrev pub Roomy : Judged → List ℕ → Type 0
-Roomy (Ready f) sheet = sheetLength ≤ length sheet
-Roomy (Refused answer) sheet = Unit
+abbrev pub Roomy : Judged → Order → List ℕ → Type 0
+Roomy (Ready f) o sheet = sheetLength (o .book) ≤ length sheet
+Roomy (Refused answer) o sheet = Unit
 
 -- at most 200 whole good records
 pub record GoodRecords (bs : List ℕ) : Type 0 where

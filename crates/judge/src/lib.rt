@@ -7,16 +7,18 @@ ghost use Rattle.record.specs.Records.{recordsOf};
 ghost use Rattle.record.specs.Vehicles.{good, vehicles};
 ghost use Rattle.account.specs.Answers.{numberOf as portionNumber};
 ghost use Rattle.order.specs.Orders.{orderRead};
-ghost use Rattle.judge.specs.Answers.{isDone, trainShape, trainAnswer, trainSheet, accountAnswer, accountSheet};
+ghost use Rattle.judge.specs.Answers.{isDone, orderRefusals, trainShape, trainAnswer, trainSheet, accountAnswer, accountSheet};
 ghost use Rattle.judge.specs.Judging.{trainJudged, accountJudged, answerOf, sheetIn, Roomy, GoodRecords, Parts};
 use account::Account;
 use account::account_of;
 use facts::Facts;
 use facts::facts_beside;
+use order::Order;
 use order::is_good_order;
 use order::read_order;
 use record::vehicle::SIZE;
 use record::vehicle::working_count;
+use sheets::length_of;
 use sheets::sheet_of;
 
 mod refusal;
@@ -141,17 +143,28 @@ pub fn account_facts(engines: &[u8], hauled: Account, lent: Answer) -> Judged
     Judged::Ready(facts_beside(engines, hauled))
 }
 
+// 4, 5, of an order as it was read.
+fn lent_refusal(order: &[u8], o: Order, room: usize) -> Answer
+    requires { ⌜ o ≡ orderRead (now order) ⌝ }
+    ensures { λ r. ⌜ r ≡ firstOf Answer.Done (orderRefusals (now (order .entry)) room) ⌝ }
+{
+    let book = o.book;
+    refusal::order_refusal(is_good_order(order), length_of(book), room)
+}
+
 // Writes the sheet where nothing is refused, and answers.
-fn put_sheet(judged: Judged, order: &[u8], sheet: &mut [u8]) -> Answer
-    requires { ⌜ Roomy judged (now sheet) ⌝ }
+fn put_sheet(judged: Judged, o: Order, sheet: &mut [u8]) -> Answer
+    requires { ⌜ Roomy judged o (now sheet) ⌝ }
     ensures { λ r. ⌜ r ≡ answerOf judged ⌝ }
-    ensures { λ _. ⌜ now (sheet .exit) ≡ sheetIn judged (orderRead (now (order .entry))) (now (sheet .entry)) ⌝ }
+    ensures { λ _. ⌜ now (sheet .exit) ≡ sheetIn judged o (now (sheet .entry)) ⌝ }
 {
     match judged {
         Judged::Refused(answer) => answer,
         Judged::Ready(f) => {
-            let made = sheet_of(f, read_order(order));
-            bytes::copy(&made, sheet);
+            let made = sheet_of(f, o);
+            let book = o.book;
+            let n = length_of(book);
+            bytes::copy(&made[0..n], sheet);
             Answer::Done
         }
     }
@@ -162,8 +175,9 @@ pub fn sheet_of_train(vehicles: &[u8], order: &[u8], sheet: &mut [u8]) -> Answer
     ensures { λ r. ⌜ r ≡ trainAnswer (now (vehicles .entry)) (now (order .entry)) (length (now (sheet .entry))) ⌝ }
     ensures { λ _. ⌜ now (sheet .exit) ≡ trainSheet (now (vehicles .entry)) (now (order .entry)) (now (sheet .entry)) ⌝ }
 {
-    let lent = refusal::order_refusal(is_good_order(order), sheet.len());
-    put_sheet(train_facts(vehicles, lent), order, sheet)
+    let o = read_order(order);
+    let lent = lent_refusal(order, o, sheet.len());
+    put_sheet(train_facts(vehicles, lent), o, sheet)
 }
 
 // The sheet of working engines lent apart, with an account of what they haul.
@@ -171,6 +185,7 @@ pub fn sheet_of_account(engines: &[u8], hauled: Account, order: &[u8], sheet: &m
     ensures { λ r. ⌜ r ≡ accountAnswer (now (engines .entry)) hauled (now (order .entry)) (length (now (sheet .entry))) ⌝ }
     ensures { λ _. ⌜ now (sheet .exit) ≡ accountSheet (now (engines .entry)) hauled (now (order .entry)) (now (sheet .entry)) ⌝ }
 {
-    let lent = refusal::order_refusal(is_good_order(order), sheet.len());
-    put_sheet(account_facts(engines, hauled, lent), order, sheet)
+    let o = read_order(order);
+    let lent = lent_refusal(order, o, sheet.len());
+    put_sheet(account_facts(engines, hauled, lent), o, sheet)
 }

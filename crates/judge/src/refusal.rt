@@ -13,7 +13,6 @@ use record::vehicle::Found;
 use record::vehicle::MOST;
 use record::vehicle::SIZE;
 use record::vehicle::first_bad;
-use sheets::LENGTH;
 
 pub(crate) fn is_done(answer: Answer) -> bool
     ensures { λ r. ⌜ r ≡ isDone answer ⌝ }
@@ -84,13 +83,13 @@ pub(crate) fn engine_refusal(engines: &[u8], hauled: Account) -> Answer
 }
 
 // 4, 5.
-pub(crate) fn order_refusal(good: bool, room: usize) -> Answer
-    ensures { λ r. ⌜ r ≡ firstOf Answer.Done (orderTests good room) ⌝ }
+pub(crate) fn order_refusal(good: bool, bytes: usize, room: usize) -> Answer
+    ensures { λ r. ⌜ r ≡ firstOf Answer.Done (orderTests good bytes room) ⌝ }
 {
     if !good {
         return Answer::BadOrder(0);
     }
-    if room < LENGTH {
+    if room < bytes {
         return Answer::ShortSheet;
     }
     Answer::Done

@@ -25,9 +25,9 @@ margin-left q k p t h = rw (diff-pos 100 k h)
 pub margin-sign : (q k p t : ℕ) → k ≤ 100 → ltZ (marginOf q k p t) (pos 0) ≡ ltb (q * (100 - k)) (4 * p * t)
 margin-sign q k p t h = rw (margin-left q k p t h) (diff-sign (q * (100 - k)) (4 * p * t))
 
-pub margin-mag : {q k p t : ℕ} → Reached q k p t → mag (marginOf q k p t) < 404000001
+pub margin-mag : {q k p t : ℕ} → Reached q k p t → mag (marginOf q k p t) < 552000001
 margin-mag {q} {k} {p} {t} f =
-    let braked : q * (100 - k) ≤ 402000000 = mul-le-mul {m₂ = 100} (f .braked) (omega arith) in
+    let braked : q * (100 - k) ≤ 552000000 = mul-le-mul {m₂ = 100} (f .braked) (omega arith) in
     let wanted : 4 * p * t ≤ 404000000 = mul-le-mul {n₂ = 800} (omega arith) (f .mass) in
     rw (margin-left q k p t (omega arith), diff-mag) (omega arith)
 

@@ -48,9 +48,9 @@ signed24 u = cond (ltb u 8388608) (pos u) (negsuc (16777215 - u))
 abbrev pub signedOf : List ℕ → ℤ
 signedOf bs = signed24 (getD bs 0 0 + 256 * getD bs 1 0 + 65536 * getD bs 2 0)
 
--- what an account within its ceilings and two engines can reach: Q is four times 1,005,000
+-- what an account within its ceilings and two engines can reach: Q is four times 1,005,000 and three times 500,000
 pub record Reached (q k p t : ℕ) : Type 0 where
-  pub braked : q ≤ 4020000
+  pub braked : q ≤ 5520000
   pub deducted : k ≤ 10
   pub percentage : p ≤ 200
   pub mass : t ≤ 505000

@@ -1,7 +1,8 @@
-// The program RANGES: a line for each row of the two tables that are walked, whose it is, its first byte, width, low and high end.
+// The program RANGES: a line for each row of the three tables that are walked, whose it is, its first byte, width, low and high end.
 use io::print_decimal;
 use libc::STDOUT_FILENO;
-use order::ORDER;
+use order::CROSS_BORDER;
+use order::DOMESTIC;
 use record::vehicle::VEHICLE;
 
 fn print_number(x: u64) -> bool {
@@ -29,8 +30,9 @@ fn print_table(whose: &[u8], table: &[[u64; 4]]) -> bool {
 
 fn main() {
     let vehicles = print_table(b"vehicle", &VEHICLE);
-    let orders = print_table(b"order", &ORDER);
-    if !(vehicles & orders) {
+    let orders = print_table(b"order", &CROSS_BORDER);
+    let domestic = print_table(b"domestic", &DOMESTIC);
+    if !(vehicles & orders & domestic) {
         os::fail(b"ranges: standard output could not be written");
     }
 }

@@ -2,11 +2,11 @@
 use Prim.Native.Nat.{ℕ, _≤_, _<_}
 use native.Mathlib.Omega.{arith}
 use mathlib.Core.Path.{_≡_, refl, sym, ap, ap₂, _∙_}
-use mathlib.Core.Bool.{Bool, true, false}
+use mathlib.Core.Bool.{Bool, true, false, not, _&&_}
 use mathlib.Core.List.{List, [], _∷_, _++_, map}
 use borrow.Author.Tests.{lt-ltb}
 use lib.ListN.{length, take, drop, getD, replicate}
-use Rattle.lists.specs.Words.{all, leading, Every, Case, caseAt}
+use Rattle.lists.specs.Words.{_is_, _above_, all, leading, Every, Case, firstOf, caseAt}
 use Rattle.record.specs.Records.{recordCount, recordsOf}
 use Rattle.record.specs.Vehicles.{good, vehicles, isWorking}
 use Rattle.record.specs.declared.vehicle.Vehicle.{Vehicle}
@@ -20,26 +20,33 @@ use Rattle.account.proofs.Demands.{any-grouping-done, portion-done-exactly}
 use Rattle.facts.specs.Engines.{GoodEngines}
 use Rattle.facts.specs.Facts.{factsOf, besideOf, factsBeside}
 use Rattle.facts.specs.declared.Facts.{Facts}
+use Rattle.record.specs.Ranges.{inRanges}
+use Rattle.order.specs.Orders.{crossBorderFields, noOrder, orderOf}
+use Rattle.order.specs.declared.Book.{Book}
+use Rattle.order.specs.declared.Book.the-variants.{CrossBorder}
 use Rattle.order.specs.declared.Order.{Order}
+use Rattle.books.specs.Books.{bookOf}
 use Rattle.rules.specs.CrossBorder.{crossBorder}
 use Rattle.rules.specs.Grants.{grantedOf}
+use Rattle.rules.specs.declared.grant.Best.{Best}
 use Rattle.rules.specs.Withdrawn.{longer}
 use Rattle.rules.proofs.Demands.{train-not-longer, account-not-longer}
-use Rattle.sections.specs.Sections.{sectionsOf, askedIn, goodSection, leadingGood}
-use Rattle.sections.proofs.Demands.{sections-count, first-bad-section}
+use Rattle.sections.specs.Routes.{bookOn, grantedOn, speedsOn}
+use Rattle.sections.specs.Sections.{sectionsOf, askedIn, bookNamedIn, goodSection, leadingGood}
+use Rattle.sections.proofs.Demands.{sections-count, first-bad-section, cross-section-kept}
 use Rattle.sheets.specs.Sheets.{sheetLength}
-use Rattle.judge.specs.Answers.{numberOf, placeOf, refusal, isDone, orderRefusals, written}
+use Rattle.judge.specs.Answers.{numberOf, placeOf, refusal, isDone, orderRefusals, trainAround, accountAround, written}
 use Rattle.judge.specs.Answers as of-sheets
 use Rattle.judge.specs.declared.Answer.{Answer}
-use Rattle.judge.specs.declared.Answer.the-variants.{Done, BadOrder}
+use Rattle.judge.specs.declared.Answer.the-variants.{Done, BadOrder, ShortSheet}
 use Rattle.judge.proofs.Demands as judge
-use Rattle.route.specs.Answers.{sectionRefusals, trainRefusals, accountRefusals, grantedFor, speedsFor, routeBy, trainAnswer, trainRoute, trainSpeeds, accountAnswer, accountRoute, accountSpeeds}
+use Rattle.route.specs.Answers.{noRoute, sectionRefusals, trainRefusals, accountRefusals, grantedFor, speedsFor, routeBy, trainAnswer, trainRoute, trainSpeeds, accountAnswer, accountRoute, accountSpeeds}
 use Rattle.route.specs.Shown.{Shows}
 use Rattle.route.specs.Withdrawn.{formerlyGranted, formerSpeeds}
 use Rattle.route.proofs.Routes.{sections-refusing, some-bad, sections-good, sections-room, speeds-long}
 use Rattle.route.proofs.Shown.{shows-done}
 use Rattle.route.proofs.Withdrawn.{kept}
-use Rattle.route.proofs.Single.{single-granted, single-speeds, single-answer, section-alone, section-order}
+use Rattle.route.proofs.Single.{single-granted, single-speeds, single-answer, section-alone, section-order, every-there}
 
 -- ---- demand 1: every input is answered
 -- "Refusals, in 01's order": the numbers, and their places; judge's answered-in-order says which is given
@@ -76,9 +83,9 @@ account-refused bs hauled orders speeds e =
 pub one-byte-a-section : (f : Facts) (orders : List ℕ) → length (speedsFor f orders) ≡ recordCount orders
 one-byte-a-section = speeds-long
 
--- 4 with its place: the first section with a field out of range or an asked category other than the first section's
-pub bad-section : (orders : List ℕ) (room i : ℕ) → i < recordCount orders → all (goodSection (askedIn orders)) (take i (recordsOf orders)) ≡ true
-    → goodSection (askedIn orders) (getD (recordsOf orders) i []) ≡ false → caseAt Done (sectionRefusals orders room) 1 ≡ refusal (BadOrder i) true
+-- 4 with its place: the first section with a field out of range, an asked category or a book other than the first section's
+pub bad-section : (orders : List ℕ) (room i : ℕ) → i < recordCount orders → all (goodSection (askedIn orders) (bookNamedIn orders)) (take i (recordsOf orders)) ≡ true
+    → goodSection (askedIn orders) (bookNamedIn orders) (getD (recordsOf orders) i []) ≡ false → caseAt Done (sectionRefusals orders room) 1 ≡ refusal (BadOrder i) true
 bad-section orders room i h before bad =
     let place = first-bad-section orders i h before bad in
     ap₂ (λ (k : ℕ) (b : Bool). refusal (BadOrder k) b) place (sym (some-bad orders i (sym place)) ∙ lt-ltb i (recordCount orders) h)
@@ -114,7 +121,7 @@ account-shows bs hauled orders speeds done =
     (sections-room orders (length speeds) (account-orders bs hauled orders (length speeds) done))
 
 -- ---- "one section must give today's granted category and speed": the answer of the sheet, and its bytes 1 and 2
-module _ (order : List ℕ) (whole : length order ≡ 24) (sheet : List ℕ) (fits : sheetLength ≤ length sheet) (first : ℕ) (rest : List ℕ) where
+module _ (order : List ℕ) (whole : length order ≡ 24) (sheet : List ℕ) (fits : sheetLength (orderOf order .book) ≤ length sheet) (first : ℕ) (rest : List ℕ) where
   pub one-section-answer : (bs : List ℕ) → trainAnswer bs order (length (first ∷ rest)) ≡ of-sheets.trainAnswer bs order (length sheet)
   unfolding trainRefusals of-sheets.trainRefusals
   one-section-answer bs =
@@ -152,8 +159,12 @@ module _ (order : List ℕ) (whole : length order ≡ 24) (sheet : List ℕ) (fi
             ∙ ap (λ (s : ℕ). s ∷ rest) (sym (shown .speed)),
       )
 
+-- what an order is granted by the book that it names
+alone-by : (f : Facts) (x o : Order) → x ≡ o → (b : Book) → x .book ≡ b → grantedOf (bookOf b) f x ≡ grantedOf (bookOf (o .book)) f o
+alone-by f x o e b named = ap (λ (b : Book). grantedOf (bookOf b) f x) (sym named) ∙ ap (λ (y : Order). grantedOf (bookOf (y .book)) f y) e
+
 -- ---- a section of a route that is done, alone: its order has a sheet, and where that grants the route's category its speed is the section's byte
-module _ (orders speeds sheet : List ℕ) (fits : sheetLength ≤ length sheet) (i : ℕ) (there : i < recordCount orders) where
+module _ (orders speeds sheet : List ℕ) (i : ℕ) (fits : sheetLength (orderOf (getD (recordsOf orders) i []) .book) ≤ length sheet) (there : i < recordCount orders) where
   abbrev order : List ℕ
   order = getD (recordsOf orders) i []
 
@@ -169,9 +180,10 @@ module _ (orders speeds sheet : List ℕ) (fits : sheetLength ≤ length sheet) 
     section-sheet same =
         let shown = judge.train-shows bs order sheet section-has-a-sheet in
         let o = section-order orders i there in
-        train-shows bs orders speeds done .alone i (omega (arith, there, sections-count orders)) (ap (λ (x : Order). grantedOf crossBorder (factsOf (vehicles bs)) x .number) o ∙ sym (shown .granted) ∙ same)
-        ∙ ap (λ (x : Order). grantedOf crossBorder (factsOf (vehicles bs)) x .speed) o
-        ∙ sym (shown .speed)
+        let all = train-shows bs orders speeds done in
+        let within : i < length (sectionsOf orders) = omega (arith, there, sections-count orders) in
+        let same-grant = alone-by (factsOf (vehicles bs)) (getD (sectionsOf orders) i noOrder) (orderOf order) o (bookOn (sectionsOf orders)) (every-there (λ (x : Order). x .book ≡ bookOn (sectionsOf orders)) (sectionsOf orders) i within (all .books)) in
+        all .alone i within (ap (λ (g : Best). g .number) same-grant ∙ sym (shown .granted) ∙ same) ∙ ap (λ (g : Best). g .speed) same-grant ∙ sym (shown .speed)
 
   module _ (bs : List ℕ) (hauled : Account) (done : accountAnswer bs hauled orders (length speeds) ≡ Done) where
     pub section-has-a-sheet-of-account : of-sheets.accountAnswer bs hauled order (length sheet) ≡ Done
@@ -187,9 +199,10 @@ module _ (orders speeds sheet : List ℕ) (fits : sheetLength ≤ length sheet) 
         let f = factsBeside (vehicles bs) hauled in
         let shown = judge.account-shows bs hauled order sheet section-has-a-sheet-of-account in
         let o = section-order orders i there in
-        account-shows bs hauled orders speeds done .alone i (omega (arith, there, sections-count orders)) (ap (λ (x : Order). grantedOf crossBorder f x .number) o ∙ sym (shown .granted) ∙ same)
-        ∙ ap (λ (x : Order). grantedOf crossBorder f x .speed) o
-        ∙ sym (shown .speed)
+        let all = account-shows bs hauled orders speeds done in
+        let within : i < length (sectionsOf orders) = omega (arith, there, sections-count orders) in
+        let same-grant = alone-by f (getD (sectionsOf orders) i noOrder) (orderOf order) o (bookOn (sectionsOf orders)) (every-there (λ (x : Order). x .book ≡ bookOn (sectionsOf orders)) (sectionsOf orders) i within (all .books)) in
+        all .alone i within (ap (λ (g : Best). g .number) same-grant ∙ sym (shown .granted) ∙ same) ∙ ap (λ (g : Best). g .speed) same-grant ∙ sym (shown .speed)
 
 -- ---- "Demand 3 stands unchanged, since the account knows no line"
 -- with one or two good working engines in front, portions cut anywhere between records and joined in any grouping give the route of the uncut train
@@ -214,24 +227,72 @@ module _ (engines : List ℕ) (g : Grouping ℕ) (orders speeds : List ℕ) (e :
       let s = route-from-account (ap (λ (r : Accounted). r .answer) (portion-done-exactly (uncut g) .1 good)) in
       (d .0, ap (λ (r : Accounted). r .account) (d .1), s .0, s .1)
 
--- ---- rule 46, withdrawn by request Five: no train's route is another than by the former list
-pub train-route-kept : (bs orders speeds : List ℕ)
-    → (routeBy (trainAnswer bs orders (length speeds)) (formerlyGranted (factsOf (vehicles bs)) orders) ≡ trainRoute bs orders (length speeds))
-    × (written (trainAnswer bs orders (length speeds)) (formerSpeeds (factsOf (vehicles bs)) orders) speeds ≡ trainSpeeds bs orders speeds)
-train-route-kept bs orders speeds = kept (factsOf (vehicles bs)) (train-not-longer (vehicles bs)) orders (trainAnswer bs orders (length speeds)) speeds
+-- ---- a route whose first section names the cross-border book gives what it gave before request Six
+module _ (orders : List ℕ) (cross : bookOn (sectionsOf orders) ≡ CrossBorder) where
+  -- what was refused of its sections: 4, and 4 with its place, by the one table and the asked category, and 5
+  abbrev formerSection : List ℕ → Bool
+  formerSection r = inRanges crossBorderFields r && orderOf r .asked is askedIn orders
 
--- nor that of engines with any account, save one with more than 700 m set to V in a length of at most 700 m
-pub account-route-kept : (bs : List ℕ) (hauled : Account) (orders speeds : List ℕ) → longer (hauled .vlength) (hauled .length) ≡ false
-    → (routeBy (accountAnswer bs hauled orders (length speeds)) (formerlyGranted (factsBeside (vehicles bs) hauled) orders) ≡ accountRoute bs hauled orders (length speeds))
-    × (written (accountAnswer bs hauled orders (length speeds)) (formerSpeeds (factsBeside (vehicles bs) hauled) orders) speeds ≡ accountSpeeds bs hauled orders speeds)
-unfolding besideOf
-account-route-kept bs hauled orders speeds elsewhere = kept (factsBeside (vehicles bs) hauled) elsewhere orders (accountAnswer bs hauled orders (length speeds)) speeds
+  abbrev refusedBy : (List ℕ → Bool) → ℕ → List (Case Answer)
+  refusedBy good room =
+      refusal (BadOrder 0) (noRoute orders)
+      ∷ refusal (BadOrder (leading good (recordsOf orders))) (not (all good (recordsOf orders)))
+      ∷ refusal ShortSheet (recordCount orders above room)
+      ∷ []
 
--- so of none with an account that comes from a list
-pub listed-route-kept : (bs : List ℕ) (hauled : List Vehicle) (orders speeds : List ℕ)
-    → (routeBy (accountAnswer bs (accountOf hauled) orders (length speeds)) (formerlyGranted (factsBeside (vehicles bs) (accountOf hauled)) orders)
-    ≡ accountRoute bs (accountOf hauled) orders (length speeds))
-    × (written (accountAnswer bs (accountOf hauled) orders (length speeds)) (formerSpeeds (factsBeside (vehicles bs) (accountOf hauled)) orders) speeds
-    ≡ accountSpeeds bs (accountOf hauled) orders speeds)
-unfolding besideOf
-listed-route-kept bs hauled orders speeds = account-route-kept bs (accountOf hauled) orders speeds (account-not-longer (vehicles bs) hauled)
+  pub cross-refusals-kept : (room : ℕ) → sectionRefusals orders room ≡ refusedBy formerSection room
+  cross-refusals-kept room = ap (λ (good : List ℕ → Bool). refusedBy good room) (ap (goodSection (askedIn orders)) cross ∙ (λ i r. cross-section-kept (askedIn orders) r i))
+
+  -- the category granted, and the sections' bytes
+  pub cross-granted-kept : (f : Facts) → grantedFor f orders ≡ grantedOn crossBorder f (sectionsOf orders) .number
+  unfolding grantedFor bookOf
+  cross-granted-kept f = ap (λ (b : Book). grantedOn (bookOf b) f (sectionsOf orders) .number) cross
+
+  pub cross-speeds-kept : (f : Facts) → speedsFor f orders ≡ speedsOn crossBorder (grantedOn crossBorder f (sectionsOf orders) .number) f (sectionsOf orders)
+  unfolding speedsFor grantedFor bookOf
+  cross-speeds-kept f = ap (λ (b : Book). speedsOn (bookOf b) (grantedOn (bookOf b) f (sectionsOf orders) .number) f (sectionsOf orders)) cross
+
+  -- so the whole call, of a train and of engines with an account
+  pub cross-train-kept : (bs speeds : List ℕ)
+      → (trainRoute bs orders (length speeds) ≡ routeBy (firstOf Done (trainAround bs (refusedBy formerSection (length speeds)))) (grantedOn crossBorder (factsOf (vehicles bs)) (sectionsOf orders) .number))
+      × (trainSpeeds bs orders speeds
+      ≡ written (firstOf Done (trainAround bs (refusedBy formerSection (length speeds)))) (speedsOn crossBorder (grantedOn crossBorder (factsOf (vehicles bs)) (sectionsOf orders) .number) (factsOf (vehicles bs)) (sectionsOf orders)) speeds)
+  unfolding trainRefusals
+  cross-train-kept bs speeds =
+      let f = factsOf (vehicles bs) in
+      let lent = cross-refusals-kept (length speeds) in
+      ((λ i. routeBy (firstOf Done (trainAround bs (lent i))) (cross-granted-kept f i)), λ i. written (firstOf Done (trainAround bs (lent i))) (cross-speeds-kept f i) speeds)
+
+  pub cross-account-kept : (bs : List ℕ) (hauled : Account) (speeds : List ℕ)
+      → (accountRoute bs hauled orders (length speeds)
+      ≡ routeBy (firstOf Done (accountAround bs hauled (refusedBy formerSection (length speeds)))) (grantedOn crossBorder (factsBeside (vehicles bs) hauled) (sectionsOf orders) .number))
+      × (accountSpeeds bs hauled orders speeds
+      ≡ written (firstOf Done (accountAround bs hauled (refusedBy formerSection (length speeds))))
+      (speedsOn crossBorder (grantedOn crossBorder (factsBeside (vehicles bs) hauled) (sectionsOf orders) .number) (factsBeside (vehicles bs) hauled) (sectionsOf orders)) speeds)
+  unfolding accountRefusals
+  cross-account-kept bs hauled speeds =
+      let f = factsBeside (vehicles bs) hauled in
+      let lent = cross-refusals-kept (length speeds) in
+      ((λ i. routeBy (firstOf Done (accountAround bs hauled (lent i))) (cross-granted-kept f i)), λ i. written (firstOf Done (accountAround bs hauled (lent i))) (cross-speeds-kept f i) speeds)
+
+  -- ---- rule 46, withdrawn by request Five: no train's route is another than by the former list
+  pub train-route-kept : (bs speeds : List ℕ)
+      → (routeBy (trainAnswer bs orders (length speeds)) (formerlyGranted (factsOf (vehicles bs)) orders) ≡ trainRoute bs orders (length speeds))
+      × (written (trainAnswer bs orders (length speeds)) (formerSpeeds (factsOf (vehicles bs)) orders) speeds ≡ trainSpeeds bs orders speeds)
+  train-route-kept bs speeds = kept (factsOf (vehicles bs)) (train-not-longer (vehicles bs)) orders cross (trainAnswer bs orders (length speeds)) speeds
+
+  -- nor that of engines with any account, save one with more than 700 m set to V in a length of at most 700 m
+  pub account-route-kept : (bs : List ℕ) (hauled : Account) (speeds : List ℕ) → longer (hauled .vlength) (hauled .length) ≡ false
+      → (routeBy (accountAnswer bs hauled orders (length speeds)) (formerlyGranted (factsBeside (vehicles bs) hauled) orders) ≡ accountRoute bs hauled orders (length speeds))
+      × (written (accountAnswer bs hauled orders (length speeds)) (formerSpeeds (factsBeside (vehicles bs) hauled) orders) speeds ≡ accountSpeeds bs hauled orders speeds)
+  unfolding besideOf
+  account-route-kept bs hauled speeds elsewhere = kept (factsBeside (vehicles bs) hauled) elsewhere orders cross (accountAnswer bs hauled orders (length speeds)) speeds
+
+  -- so of none with an account that comes from a list
+  pub listed-route-kept : (bs : List ℕ) (hauled : List Vehicle) (speeds : List ℕ)
+      → (routeBy (accountAnswer bs (accountOf hauled) orders (length speeds)) (formerlyGranted (factsBeside (vehicles bs) (accountOf hauled)) orders)
+      ≡ accountRoute bs (accountOf hauled) orders (length speeds))
+      × (written (accountAnswer bs (accountOf hauled) orders (length speeds)) (formerSpeeds (factsBeside (vehicles bs) (accountOf hauled)) orders) speeds
+      ≡ accountSpeeds bs (accountOf hauled) orders speeds)
+  unfolding besideOf
+  listed-route-kept bs hauled speeds = account-route-kept bs (accountOf hauled) speeds (account-not-longer (vehicles bs) hauled)

@@ -15,8 +15,7 @@ use Rattle.record.proofs.Records.{length-records}
 use Rattle.account.specs.declared.Account.{Account}
 use Rattle.facts.specs.Facts.{factsOf, factsBeside}
 use Rattle.facts.specs.declared.Facts.{Facts}
-use Rattle.rules.specs.CrossBorder.{crossBorder}
-use Rattle.sections.specs.Sections.{sectionsOf, askedIn, goodSection, leadingGood}
+use Rattle.sections.specs.Sections.{sectionsOf, askedIn, bookNamedIn, goodSection, leadingGood}
 use Rattle.sections.proofs.Demands.{sections-count, one-byte-a-section, laid-room}
 use Rattle.judge.specs.Answers.{isDone, written}
 use Rattle.judge.specs.Judging.{Refusing, trainJudged, accountJudged, judgedBy}
@@ -25,21 +24,21 @@ use Rattle.judge.specs.declared.Answer.the-variants.{Done, BadOrder, ShortSheet
 use Rattle.judge.specs.declared.Judged.{Judged}
 use Rattle.judge.specs.declared.Judged.the-variants.{Ready, Refused}
 use Rattle.judge.proofs.Demands.{done-only, train-judged, train-lent, account-judged, account-lent}
-use Rattle.route.specs.Answers.{noRoute, sectionRefusals, trainRefusals, accountRefusals, grantedFor, speedsFor, routeBy, trainAnswer, trainRoute, trainSpeeds, accountAnswer, accountRoute, accountSpeeds}
+use Rattle.route.specs.Answers.{noRoute, sectionRefusals, trainRefusals, accountRefusals, bookFor, grantedFor, speedsFor, routeBy, trainAnswer, trainRoute, trainSpeeds, accountAnswer, accountRoute, accountSpeeds}
 use Rattle.route.specs.Giving.{routeIn, speedsIn}
 
 pub sections-refusing : (orders : List ℕ) (room : ℕ) → Refusing (sectionRefusals orders room)
 sections-refusing orders room = (refl, (refl, (refl, tt)))
 
 -- fewer good ones in front than there are exactly where one is not good
-pub some-bad : (orders : List ℕ) (place : ℕ) → place ≡ leadingGood orders → ltb place (recordCount orders) ≡ not (all (goodSection (askedIn orders)) (recordsOf orders))
+pub some-bad : (orders : List ℕ) (place : ℕ) → place ≡ leadingGood orders → ltb place (recordCount orders) ≡ not (all (goodSection (askedIn orders) (bookNamedIn orders)) (recordsOf orders))
 some-bad orders place found =
-    ap₂ ltb found (sym (length-records (recordCount orders) orders)) ∙ lacking (goodSection (askedIn orders)) (recordsOf orders)
+    ap₂ ltb found (sym (length-records (recordCount orders) orders)) ∙ lacking (goodSection (askedIn orders) (bookNamedIn orders)) (recordsOf orders)
 
 -- ---- test by test
 module _ (orders : List ℕ) (room : ℕ) where
   abbrev someBad : Bool
-  someBad = not (all (goodSection (askedIn orders)) (recordsOf orders))
+  someBad = not (all (goodSection (askedIn orders) (bookNamedIn orders)) (recordsOf orders))
 
   pub refused-whole : noRoute orders ≡ true → BadOrder 0 ≡ firstOf Done (sectionRefusals orders room)
   refused-whole e = rw e
@@ -56,7 +55,7 @@ module _ (orders : List ℕ) (room : ℕ) where
 
 -- ---- where none of them is refused
 module _ (orders : List ℕ) (room : ℕ) (none : Every (λ c. c .applies ≡ false) (sectionRefusals orders room)) where
-  pub sections-good : all (goodSection (askedIn orders)) (recordsOf orders) ≡ true
+  pub sections-good : all (goodSection (askedIn orders) (bookNamedIn orders)) (recordsOf orders) ≡ true
   sections-good = not-false _ (none .1 .0)
 
   pub sections-room : recordCount orders ≤ room
@@ -64,7 +63,7 @@ module _ (orders : List ℕ) (room : ℕ) (none : Every (λ c. c .applies ≡ fa
 
 pub speeds-long : (f : Facts) (orders : List ℕ) → length (speedsFor f orders) ≡ recordCount orders
 unfolding speedsFor
-speeds-long f orders = one-byte-a-section crossBorder f (grantedFor f orders) (sectionsOf orders) ∙ sections-count orders
+speeds-long f orders = one-byte-a-section (bookFor (sectionsOf orders)) f (grantedFor f orders) (sectionsOf orders) ∙ sections-count orders
 
 -- ---- a train judged with what was answered of the orders and the room
 module _ (total : Answer) (orders speeds : List ℕ) (f : Facts) (all-passed : isDone total ≡ true → Every (λ c. c .applies ≡ false) (sectionRefusals orders (length speeds))) where

@@ -9,9 +9,11 @@ use Rattle.record.specs.Vehicles.{vehicles}
 use Rattle.account.specs.declared.Account.{Account}
 use Rattle.facts.specs.Facts.{factsOf, factsBeside}
 use Rattle.facts.specs.declared.Facts.{Facts}
-use Rattle.rules.specs.CrossBorder.{crossBorder}
-use Rattle.sections.specs.Routes.{grantedOn, speedsOn}
-use Rattle.sections.specs.Sections.{sectionsOf, askedIn, goodSection, leadingGood}
+use Rattle.rules.specs.Books.{RuleBook}
+use Rattle.order.specs.declared.Order.{Order}
+use Rattle.books.specs.Books.{bookOf}
+use Rattle.sections.specs.Routes.{bookOn, grantedOn, speedsOn}
+use Rattle.sections.specs.Sections.{sectionsOf, askedIn, bookNamedIn, goodSection, leadingGood}
 use Rattle.judge.specs.Answers.{refusal, isDone, trainAround, accountAround, written}
 use Rattle.judge.specs.declared.Answer.{Answer}
 use Rattle.judge.specs.declared.Answer.the-variants.{Done, BadOrder, ShortSheet}
@@ -26,8 +28,8 @@ abbrev pub sectionRefusals : List ℕ → ℕ → List (Case Answer)
 sectionRefusals orders room =
     -- 4, with place 0
     refusal (BadOrder 0) (noRoute orders)
-    -- 4: the first section with a field out of range or an asked category other than the first section's, counted from 0
-    ∷ refusal (BadOrder (leadingGood orders)) (not (all (goodSection (askedIn orders)) (recordsOf orders)))
+    -- 4: the first section with a field out of range, or an asked category or a book other than the first section's, counted from 0
+    ∷ refusal (BadOrder (leadingGood orders)) (not (all (goodSection (askedIn orders) (bookNamedIn orders)) (recordsOf orders)))
     -- 5: fewer bytes lent than sections
     ∷ refusal ShortSheet (recordCount orders above room)
     ∷ []
@@ -39,12 +41,16 @@ trainRefusals bs orders room = trainAround bs (sectionRefusals orders room)
 unfoldable pub accountRefusals : List ℕ → Account → List ℕ → ℕ → List (Case Answer)
 accountRefusals bs hauled orders room = accountAround bs hauled (sectionRefusals orders room)
 
+-- the book that the sections name, as the first does
+abbrev pub bookFor : List Order → RuleBook
+bookFor os = bookOf (bookOn os)
+
 -- the category granted on all sections, or 0; and one byte a section, its speed in that category
 unfoldable pub grantedFor : Facts → List ℕ → ℕ
-grantedFor f orders = grantedOn crossBorder f (sectionsOf orders) .number
+grantedFor f orders = grantedOn (bookFor (sectionsOf orders)) f (sectionsOf orders) .number
 
 unfoldable pub speedsFor : Facts → List ℕ → List ℕ
-speedsFor f orders = speedsOn crossBorder (grantedFor f orders) f (sectionsOf orders)
+speedsFor f orders = speedsOn (bookFor (sectionsOf orders)) (grantedFor f orders) f (sectionsOf orders)
 
 -- a refusal gives category 0
 abbrev pub routeBy : Answer → ℕ → Route

@@ -1,9 +1,9 @@
 -- Demand 2, as far as rules and granting go: the theorems, over the definitions of specs/, of any sound rule book. Assumes nothing.
 use Prim.Native.Nat.{ℕ, _≤_, _<_}
 use native.Mathlib.Omega.{arith}
-use mathlib.Core.Path.{_≡_, refl}
+use mathlib.Core.Path.{_≡_, refl, ap}
 use mathlib.Core.Bool.{true, false, not, _&&_, cond}
-use mathlib.Core.List.{List, [], _∷_, _++_, map}
+use mathlib.Core.List.{List, [], _∷_, _++_, map, foldr}
 use mathlib.Core.Logic.{_⊎_}
 use lib.IntN.{pos}
 use lib.ListN.{replicate}
@@ -17,14 +17,14 @@ use Rattle.facts.specs.Facts.{factsOf, factsBeside}
 use Rattle.facts.specs.declared.Facts.{Facts}
 use Rattle.facts.proofs.Demands.{v-length-within, v-length-beside}
 use Rattle.order.specs.declared.Order.{Order}
-use Rattle.categories.specs.Categories.{crossRows, lineSpeed, speedOf, none, categoryOf}
+use Rattle.categories.specs.Categories.{crossRows, lineSpeed, speedOf, percentageOf, none, categoryOf}
 use Rattle.categories.specs.Brakes.{begunOf, marginFor}
 use Rattle.categories.specs.declared.category.Category.{Category}
 use Rattle.rules.specs.Rules.{Rule, rule, firstBroken, numbersOf, isShort, termsOf}
 use Rattle.rules.specs.Books.{RuleBook, rulesOf, brokenBy, Rise, Sound}
 use Rattle.rules.specs.CrossBorder.{ownRules, crossBorder}
 use Rattle.rules.specs.Withdrawn.{stood, formerBook, longerThanAll, NotReached, formerly}
-use Rattle.rules.specs.Grants.{stands, offerOf, bestOf, grantedOf, decisionOf, offersFrom, MayBeGranted, Among, Offered, Stands, Granted, KeepsNumber, Standing}
+use Rattle.rules.specs.Grants.{offer, stands, offerOf, betterOf, bestOf, absentRule, grantedOf, decisionOf, offersFrom, MayBeGranted, Among, Offered, Stands, Granted, KeepsNumber, Standing}
 use Rattle.rules.specs.declared.grant.Offer.{Offer}
 use Rattle.rules.specs.declared.grant.Best.{Best}
 use Rattle.rules.specs.declared.rule.Terms.{Terms}
@@ -51,16 +51,16 @@ category-none rows = table.category-none 0 0 rows (omega arith)
 
 -- ---- the rules, in the order they are asked
 -- the numbers of the common rules, and of a category's whole list
-pub rule-numbers : (t : Terms) (f : Facts)
+pub rule-numbers : (c : Category) (f : Facts) (o : Order)
     → (numbersOf (crossBorder .common f) ≡ 15 ∷ 16 ∷ 17 ∷ 18 ∷ 19 ∷ 20 ∷ 21 ∷ 22 ∷ 23 ∷ [])
-    × (numbersOf (crossBorder .rules t f) ≡ 15 ∷ 16 ∷ 17 ∷ 18 ∷ 19 ∷ 20 ∷ 21 ∷ 22 ∷ 23 ∷ 30 ∷ 31 ∷ 32 ∷ 33 ∷ 34 ∷ 35 ∷ 40 ∷ 41 ∷ 42 ∷ 43 ∷ 44 ∷ 47 ∷ [])
+    × (numbersOf (rulesOf crossBorder c f o) ≡ 15 ∷ 16 ∷ 17 ∷ 18 ∷ 19 ∷ 20 ∷ 21 ∷ 22 ∷ 23 ∷ 30 ∷ 31 ∷ 32 ∷ 33 ∷ 34 ∷ 35 ∷ 40 ∷ 41 ∷ 42 ∷ 43 ∷ 44 ∷ 47 ∷ [])
 unfolding crossBorder
-rule-numbers t f = (refl, refl)
+rule-numbers c f o = (refl, refl)
 
 -- so no number is 0, and the categories' numbers rise from 1 to 5
 pub cross-border-sound : Sound crossBorder
 unfolding crossBorder
-cross-border-sound = record { numbered = λ t f. omega arith; rising = omega arith }
+cross-border-sound = record { numbered = λ c f o. omega arith; rising = omega arith }
 
 -- the last is broken exactly when the margin is below zero
 pub rule-47 : (c : Category) (f : Facts) (o : Order) → caseAt 0 (rulesOf crossBorder c f o) 20 ≡ rule 47 (ltZ (marginFor c f o) (pos 0))
@@ -68,9 +68,9 @@ unfolding crossBorder termsOf
 rule-47 c f o = refl
 
 -- ---- rule 46, withdrawn by request Five: the former list, which had it behind 44, against today's
-pub former-numbers : (t : Terms) (f : Facts) → numbersOf (formerBook .rules t f) ≡ 15 ∷ 16 ∷ 17 ∷ 18 ∷ 19 ∷ 20 ∷ 21 ∷ 22 ∷ 23 ∷ 30 ∷ 31 ∷ 32 ∷ 33 ∷ 34 ∷ 35 ∷ 40 ∷ 41 ∷ 42 ∷ 43 ∷ 44 ∷ 46 ∷ 47 ∷ []
+pub former-numbers : (c : Category) (f : Facts) (o : Order) → numbersOf (rulesOf formerBook c f o) ≡ 15 ∷ 16 ∷ 17 ∷ 18 ∷ 19 ∷ 20 ∷ 21 ∷ 22 ∷ 23 ∷ 30 ∷ 31 ∷ 32 ∷ 33 ∷ 34 ∷ 35 ∷ 40 ∷ 41 ∷ 42 ∷ 43 ∷ 44 ∷ 46 ∷ 47 ∷ []
 unfolding formerBook
-former-numbers t f = refl
+former-numbers c f o = refl
 
 -- it asked for more than 10 begun 20 m of the hauled vehicles set to V in 1 to 3
 pub rule-46 : (c : Category) (f : Facts) (o : Order) → caseAt 0 (rulesOf formerBook c f o) stood ≡ rule 46 (not (c .isg) && begunOf (f .hauledVLength) above 10)
@@ -79,7 +79,7 @@ rule-46 c f o = refl
 
 -- from 7,001 on, where nothing else is broken
 pub former-limits : (map (formerly 7000) (1 ∷ 2 ∷ 3 ∷ 4 ∷ 5 ∷ []) ≡ replicate 5 0) × (map (formerly 7001) (1 ∷ 2 ∷ 3 ∷ 4 ∷ 5 ∷ []) ≡ 46 ∷ 46 ∷ 46 ∷ 0 ∷ 0 ∷ [])
-unfolding formerBook crossBorder brokenBy termsOf lineSpeed marginFor marginOf fourfold
+unfolding formerBook crossBorder brokenBy termsOf lineSpeed marginFor marginOf fourfold percentageOf
 former-limits = (refl, refl)
 
 -- no list of vehicles has more than 700 m set to V in a hauled part of at most 700 m
@@ -141,6 +141,10 @@ stands-exactly = offers.stands-exactly
 pub none-exactly : (asked : ℕ) (os : List Offer) (g : Best) → Granted asked os g → ((n s : ℕ) → Stands asked os n s → ⊥) → g .number ≡ 0
 none-exactly = grants.none-exactly
 
+-- a category that a book does not have is passed over, whatever its number and speed
+pub absent-passed : (asked n speed : ℕ) (rest : Best) → betterOf asked (offer n speed absentRule) rest ≡ rest
+absent-passed = offers.absent-passed
+
 -- of rows offered in any way that keeps their numbers
 module _ (asked : ℕ) (offered : Category → Offer) (keeps : KeepsNumber offered) (rows : List Category) where
   -- the computed one is what is granted of them, where the numbers rise
@@ -167,7 +171,7 @@ module _ (b : RuleBook) (f : Facts) (o : Order) where
         → (brokenBy b c f o ≡ 0 → Every (λ r. r .applies ≡ false) (rulesOf b c f o))
         × (Every (λ r. r .applies ≡ false) (rulesOf b c f o) → brokenBy b c f o ≡ 0)
     unfolding brokenBy
-    zero-exactly c = (zero-none (rulesOf b c f o) (sound .numbered (termsOf c f o) f), no-rule (rulesOf b c f o))
+    zero-exactly c = (zero-none (rulesOf b c f o) (sound .numbered c f o), no-rule (rulesOf b c f o))
 
     -- no category is granted exactly when every one from the asked on breaks a rule
     pub none-granted : grantedOf b f o .number ≡ 0 → (c : Category) → Among c (b .rows) → MayBeGranted b f o c → ⊥
@@ -196,4 +200,8 @@ module _ (b : RuleBook) (f : Facts) (o : Order) where
 -- what is granted is the best of the numbers and speeds that are decided
 pub granted-of-decided : (f : Facts) (o : Order) → bestOf (o .asked) (offersFrom 1 (decisionOf crossBorder f o .broken) (decisionOf crossBorder f o .speeds)) ≡ grantedOf crossBorder f o
 unfolding decisionOf grantedOf offerOf crossBorder
-granted-of-decided f o = refl
+granted-of-decided f o = ap (front f o) (absent-passed (o .asked) 6 0 (bestOf (o .asked) []))
+  where
+    -- the five, in front of what is best behind them
+    front : Facts → Order → Best → Best
+    front f o last = foldr (λ c rest. betterOf (o .asked) (offerOf crossBorder f o c) rest) last (crossBorder .rows)

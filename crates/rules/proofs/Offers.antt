@@ -1,19 +1,21 @@
 -- Categories as they are offered, whatever they are offered for, and what is granted of them: for every rows whose numbers rise. Assumes nothing.
 use Prim.Native.Nat.{ℕ, _≤_, _<_}
 use mathlib.Core.Path.{_≡_, refl, sym, ap, ap₂, _∙_, subst}
-use mathlib.Core.Bool.{true, _&&_}
+use mathlib.Core.Bool.{Bool, true, false, _&&_, cond}
 use mathlib.Core.List.{List, [], _∷_, map}
 use mathlib.Core.Logic.{inl, inr}
 use borrow.Author.Tests.{le-leb, leb-true, eq-eqb, eqb-true}
 use lib.Dec.{leb, eqb}
+use Rattle.lists.specs.Words.{_atMost_}
 use Rattle.lists.proofs.Lists.{both}
 use Rattle.facts.specs.declared.Facts.{Facts}
 use Rattle.order.specs.declared.Order.{Order}
 use Rattle.categories.specs.Categories.{speedOf}
 use Rattle.categories.specs.declared.category.Category.{Category}
 use Rattle.rules.specs.Books.{RuleBook, Rise}
-use Rattle.rules.specs.Grants.{stands, bestOf, offerOf, offersOf, grantedOf, MayBeGranted, Among, Offered, Stands, Rising, Granted, KeepsNumber, Standing}
+use Rattle.rules.specs.Grants.{offer, stands, betterOf, bestOf, absentRule, offerOf, offersOf, grantedOf, MayBeGranted, Among, Offered, Stands, Rising, Granted, KeepsNumber, Standing}
 use Rattle.rules.specs.declared.grant.Offer.{Offer}
+use Rattle.rules.specs.declared.grant.Best.{Best}
 use Rattle.rules.proofs.Grants.{best-granted}
 
 -- an offer stands exactly when it is the asked or a greater one and breaks no rule
@@ -24,6 +26,14 @@ stands-exactly asked x = (apart, λ h e. ap₂ _&&_ (le-leb asked (x .number) h)
   where
     apart : stands asked x ≡ true → (asked ≤ x .number) × (x .broken ≡ 0)
     apart e = let t = both (leb asked (x .number)) (eqb (x .broken) 0) e in (leb-true asked (x .number) (t .0), eqb-true (x .broken) 0 (t .1))
+
+-- a category that a book does not have is passed over
+pub absent-passed : (asked n speed : ℕ) (rest : Best) → betterOf asked (offer n speed absentRule) rest ≡ rest
+absent-passed asked n speed rest = go (leb asked n)
+  where
+    go : (b : Bool) → cond ((b && false) && rest .speed atMost speed) (record { number = n; speed = speed }) rest ≡ rest
+    go true = refl
+    go false = refl
 
 -- ---- of any rows, offered in any way that keeps their numbers
 module _ (asked : ℕ) (offered : Category → Offer) (keeps : KeepsNumber offered) where

@@ -58,8 +58,8 @@ first-marked (suc i) b (x ∷ xs) h = go x b (first-marked i b xs (omega arith))
     go false false e = ap suc e
 
 -- the family's first rule is the number at its place
-pub family-first : (isg : Bool) (w : Weigh) (f : Facts) (o : Order) (m : Family) → m ≡ familyOf crossBorder isg w f o
-    → getD (numbersOf (crossRules (stillOf isg o) f)) (m .place) 0 ≡ familyFirst crossBorder isg f o
+pub family-first : (isg : Bool) (w : Weigh) (f : Facts) (o : Order) (m : Family) → m ≡ familyOf isg w f o
+    → getD (numbersOf (crossRules (stillOf isg o) f)) (m .place) 0 ≡ familyFirst isg f o
 unfolding familyOf familyFirst crossBorder
 family-first isg w f o m e =
     ap (λ (m : Family). getD (numbersOf (crossRules (stillOf isg o) f)) (m .place) 0) e ∙ number-there (crossRules (stillOf isg o) f)
@@ -109,7 +109,7 @@ module _ (c : Category) (f : Facts) (o : Order) where
       ap (λ (n : ℕ). cond missing (min at30 n) n) first ∙ sym (first-marked at30 missing (marked at47 short still) (omega arith)) ∙ ap (leading not) (sym added)
 
   -- so the number is 30, 47 or the family's
-  pub broken-there : (m : Family) → m ≡ familyOf crossBorder (c .isg) (c .weigh) f o → (n : ℕ) → n ≡ familyFirst crossBorder (c .isg) f o
+  pub broken-there : (m : Family) → m ≡ familyOf (c .isg) (c .weigh) f o → (n : ℕ) → n ≡ familyFirst (c .isg) f o
       → cond (lineSpeed c o is 0 && ltb at30 (m .place)) 30 (cond (isShort c f o && ltb at47 (m .place)) 47 n) ≡ brokenBy crossBorder c f o
   unfolding familyOf familyFirst brokenBy crossBorder
   broken-there m e n g =

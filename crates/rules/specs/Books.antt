@@ -6,19 +6,18 @@ use Rattle.lists.specs.Words.{Every}
 use Rattle.facts.specs.declared.Facts.{Facts}
 use Rattle.order.specs.declared.Order.{Order}
 use Rattle.categories.specs.declared.category.Category.{Category}
-use Rattle.rules.specs.Rules.{Rule, firstBroken, termsOf}
-use Rattle.rules.specs.declared.rule.Terms.{Terms}
+use Rattle.rules.specs.Rules.{Rule, firstBroken}
 
--- the categories in order, the rules common to all, the rules of a category in the order they are asked, and when the mark byte is 1, of the asked number
+-- the categories in order, the rules common to all, the rules of a category in the order they are asked, of a train on an order, and when the mark byte is 1, of the asked number
 pub record RuleBook : Type 0 where
   pub rows : List Category
   pub common : Facts → List Rule
-  pub rules : Terms → Facts → List Rule
+  pub rules : Category → Facts → Order → List Rule
   pub mark : ℕ → Facts → Bool
 
 -- the rules of a category
 abbrev pub rulesOf : RuleBook → Category → Facts → Order → List Rule
-rulesOf b c f o = b .rules (termsOf c f o) f
+rulesOf b c f o = b .rules c f o
 
 -- the first rule that a category breaks, or 0
 unfoldable pub brokenBy : RuleBook → Category → Facts → Order → ℕ
@@ -31,5 +30,5 @@ Rise n (c ∷ rows) = (n < c .number) × Rise (c .number) rows
 
 -- what the theorems ask of a book: no rule has the number 0, and the categories' numbers rise
 pub record Sound (b : RuleBook) : Type 0 where
-  pub numbered : (t : Terms) (f : Facts) → Every (λ r. 0 < r .gives) (b .rules t f)
+  pub numbered : (c : Category) (f : Facts) (o : Order) → Every (λ r. 0 < r .gives) (rulesOf b c f o)
   pub rising : Rise 0 (b .rows)

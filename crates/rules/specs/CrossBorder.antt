@@ -4,7 +4,7 @@ use mathlib.Core.List.{List, [], _∷_, _++_}
 use Rattle.lists.specs.Words.{_is_, _above_, _atMost_}
 use Rattle.facts.specs.declared.Facts.{Facts}
 use Rattle.categories.specs.Categories.{crossRows}
-use Rattle.rules.specs.Rules.{Rule, rule}
+use Rattle.rules.specs.Rules.{Rule, rule, termsOf}
 use Rattle.rules.specs.Books.{RuleBook}
 use Rattle.rules.specs.declared.rule.Terms.{Terms}
 
@@ -69,7 +69,7 @@ crossBorder =
     record {
       rows = crossRows;
       common = commonRules;
-      rules = crossRules;
+      rules = λ c f o. crossRules (termsOf c f o) f;
       -- byte 14: 1 to 3 is asked and hauled mass is above 1,200 t
       mark = λ asked f. 1 atMost asked && asked atMost 3 && f .hauledMass above 12000;
     }

@@ -2,7 +2,8 @@
 use Prim.Native.Nat.{ℕ, suc, _≤_, _<_}
 use mathlib.Core.Path.{_≡_}
 use mathlib.Core.Bool.{Bool, true, _&&_, cond}
-use mathlib.Core.List.{List, [], _∷_, map}
+use mathlib.Core.List.{List, [], _∷_, _++_, map}
+use lib.ListN.{take, replicate}
 use mathlib.Core.Logic.{_⊎_}
 use Rattle.lists.specs.Words.{_is_, _atMost_}
 use Rattle.facts.specs.declared.Facts.{Facts}
@@ -40,12 +41,20 @@ bestOf asked (x ∷ rest) = betterOf asked x (bestOf asked rest)
 unfoldable pub grantedOf : RuleBook → Facts → Order → Best
 grantedOf b f o = bestOf (o .asked) (offersOf b f o)
 
+-- a book has at most six categories; of one that it does not have
+abbrev pub sixOf : ℕ → List ℕ → List ℕ
+sixOf absent xs = take 6 (xs ++ replicate 6 absent)
+
+-- no rule has this number: a category that the book does not have never stands
+abbrev pub absentRule : ℕ
+absentRule = 255
+
 -- of each category the first rule broken and the speed, and the category granted
 unfoldable pub decisionOf : RuleBook → Facts → Order → Decision
 decisionOf b f o =
     record {
-      broken = map (λ c. brokenBy b c f o) (b .rows);
-      speeds = map (λ c. speedOf c f o) (b .rows);
+      broken = sixOf absentRule (map (λ c. brokenBy b c f o) (b .rows));
+      speeds = sixOf 0 (map (λ c. speedOf c f o) (b .rows));
       granted = grantedOf b f o .number;
       speed = grantedOf b f o .speed;
     }
@@ -55,6 +64,16 @@ abbrev pub offersFrom : ℕ → List ℕ → List ℕ → List Offer
 offersFrom n [] speeds = []
 offersFrom n (b ∷ broken) [] = []
 offersFrom n (b ∷ broken) (s ∷ speeds) = offer n s b ∷ offersFrom (suc n) broken speeds
+
+-- what is decided by them
+abbrev pub decidedBy : ℕ → List ℕ → List ℕ → Decision
+decidedBy asked broken speeds =
+    record {
+      broken = broken;
+      speeds = speeds;
+      granted = bestOf asked (offersFrom 1 broken speeds) .number;
+      speed = bestOf asked (offersFrom 1 broken speeds) .speed;
+    }
 
 -- a category that may be granted: the asked or a greater one, that breaks no rule
 pub record MayBeGranted (b : RuleBook) (f : Facts) (o : Order) (c : Category) : Type 0 where

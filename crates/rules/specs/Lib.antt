@@ -1,7 +1,7 @@
 pub mod Rules
 pub mod Books
-pub mod Families
 pub mod CrossBorder
+pub mod Families
 pub mod Grants
 pub mod Limits
 pub mod Withdrawn

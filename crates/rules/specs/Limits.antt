@@ -5,14 +5,15 @@ use mathlib.Core.List.{List, [], _∷_}
 use lib.ListN.{replicate}
 use Rattle.facts.specs.Named.{hauledMass, hauledLength, hauledVLength, trainLength, axles, engines, vmass, vaxles, longest, hauledM, workingNotM, firstFiveV, afterFifthM, firstIsolated, lastIsolated, behind, setR, notJoined, matrossow, facts}
 use Rattle.facts.specs.declared.Facts.{Facts}
+use Rattle.order.specs.declared.Book.the-variants.{CrossBorder}
 use Rattle.order.specs.declared.Order.{Order}
 use Rattle.categories.specs.Categories.{crossRows, categoryOf}
 use Rattle.rules.specs.Books.{brokenBy}
 use Rattle.rules.specs.CrossBorder.{crossBorder}
 
--- these limits of the line, LRA and admissible mass
+-- these limits of the line from ME120 on, LRA and admissible mass
 abbrev pub line : List ℕ → ℕ → ℕ → Order
-line limits coupling admissible = record { limits = limits; asked = 1; german = 0; coupling = coupling; admissible = admissible }
+line limits coupling admissible = record { book = CrossBorder; limits = 0 ∷ limits; asked = 1; german = 0; coupling = coupling; admissible = admissible }
 
 -- one figure alone, one mark alone, a hauled mass with a mark
 abbrev pub having : ℕ → ℕ → Facts

@@ -1,4 +1,4 @@
--- A rule is a number and a test; a list of rules is a list of numbers beside a list of marks. What the tests read beside the facts.
+-- A rule is a number and a test; a list of rules is a list of numbers beside a list of marks. What the cross-border tests read beside the facts.
 use Prim.Native.Nat.{ℕ, min}
 use mathlib.Core.Bool.{Bool, cond}
 use mathlib.Core.List.{List, map}
@@ -29,7 +29,7 @@ numbersOf rules = map (λ r. r .gives) rules
 abbrev pub marksOf : List Rule → List Bool
 marksOf rules = map (λ r. r .applies) rules
 
--- what rules ask beside the facts, by whether it is one of 4 and 5, the line's speed and whether the braked mass is too small
+-- what the cross-border rules ask beside the facts, by whether it is one of 4 and 5, the line's speed and whether the braked mass is too small
 abbrev pub termsAt : Bool → ℕ → Bool → Order → Terms
 termsAt isg line short o =
     record {
@@ -41,7 +41,7 @@ termsAt isg line short o =
       short = short;
     }
 
--- 47: broken exactly when the margin is below zero
+-- 47, and 77 and 88 of the domestic book: broken exactly when the margin is below zero
 abbrev pub isShort : Category → Facts → Order → Bool
 isShort c f o = ltZ (marginFor c f o) (pos 0)
 

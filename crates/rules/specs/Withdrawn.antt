@@ -11,7 +11,7 @@ use Rattle.order.specs.declared.Order.{Order}
 use Rattle.categories.specs.Categories.{crossRows, categoryOf}
 use Rattle.categories.specs.Brakes.{begunOf}
 use Rattle.categories.specs.declared.category.Category.{Category}
-use Rattle.rules.specs.Rules.{Rule, rule}
+use Rattle.rules.specs.Rules.{Rule, rule, termsOf}
 use Rattle.rules.specs.Books.{RuleBook, rulesOf, brokenBy}
 use Rattle.rules.specs.CrossBorder.{crossRules, crossBorder}
 use Rattle.rules.specs.Limits.{line, having}
@@ -30,7 +30,7 @@ formerRules t f = take stood (crossRules t f) ++ rule46 t f ∷ drop stood (cros
 
 -- nothing else of the book was another
 unfoldable pub formerBook : RuleBook
-formerBook = record { rows = crossBorder .rows; common = crossBorder .common; rules = formerRules; mark = crossBorder .mark }
+formerBook = record { rows = crossBorder .rows; common = crossBorder .common; rules = λ c f o. formerRules (termsOf c f o) f; mark = crossBorder .mark }
 
 -- the only lengths by which 46 could be the first broken: more than 700 m set to V in a hauled part of at most 700 m
 abbrev pub longer : ℕ → ℕ → Bool

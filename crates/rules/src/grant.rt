@@ -1,7 +1,7 @@
 // What a train breaks in each category, and the category granted.
 ghost use mathlib.Core.Path.{_≡_};
 ghost use Rattle.rules.specs.Families.{familyOf, familyFirst};
-ghost use Rattle.rules.specs.Grants.{offer, offerOf, betterOf, bestOf, offersFrom, decisionOf};
+ghost use Rattle.rules.specs.Grants.{offer, offerOf, betterOf, bestOf, offersFrom, decidedBy, decisionOf};
 ghost use Rattle.rules.specs.CrossBorder.{crossBorder};
 use crate::rule::Family;
 use crate::rule::broken_by;
@@ -25,17 +25,17 @@ pub struct Best {
     pub speed: u8,
 }
 
-// What is decided of a train: of each category the first rule broken and the speed, and the category granted.
+// What is decided of a train: of each category the first rule broken and the speed, and the category granted; six places, for the book that has most.
 pub struct Decision {
-    pub broken: [u8; 5],
-    pub speeds: [u8; 5],
+    pub broken: [u8; 6],
+    pub speeds: [u8; 6],
     pub granted: u8,
     pub speed: u8,
 }
 
 fn offered(m: Family, first: u8, c: Category, f: Facts, o: Order) -> Offer
-    requires { ⌜ m ≡ familyOf crossBorder (c .isg) (c .weigh) f o ⌝ }
-    requires { ⌜ first ≡ familyFirst crossBorder (c .isg) f o ⌝ }
+    requires { ⌜ m ≡ familyOf (c .isg) (c .weigh) f o ⌝ }
+    requires { ⌜ first ≡ familyFirst (c .isg) f o ⌝ }
     ensures { λ r. ⌜ r ≡ offerOf crossBorder f o c ⌝ }
 {
     let line = c.line_speed(o);
@@ -61,22 +61,40 @@ fn better(asked: u8, number: u8, speed: u8, broken: u8, rest: Best) -> Best
     }
 }
 
-// The category granted, of the first rules that categories 1 to 5 break and of their speeds.
-pub fn choose(asked: u8, broken: [u8; 5], speeds: [u8; 5]) -> Best
+// The first rule broken by a category that a book does not have: the number of no rule, so that it never stands.
+pub const ABSENT: u8 = 255;
+
+// The category granted, of the first rules that categories 1 to 6 break and of their speeds.
+pub fn choose(asked: u8, broken: [u8; 6], speeds: [u8; 6]) -> Best
     ensures { λ r. ⌜ r ≡ bestOf asked (offersFrom 1 broken speeds) ⌝ }
 {
     let none = Best {
         number: 0,
         speed: 0,
     };
-    let from5 = better(asked, 5, speeds[4], broken[4], none);
+    let from6 = better(asked, 6, speeds[5], broken[5], none);
+    let from5 = better(asked, 5, speeds[4], broken[4], from6);
     let from4 = better(asked, 4, speeds[3], broken[3], from5);
     let from3 = better(asked, 3, speeds[2], broken[2], from4);
     let from2 = better(asked, 2, speeds[1], broken[1], from3);
     better(asked, 1, speeds[0], broken[0], from2)
 }
 
-pub fn decide(f: Facts, o: Order) -> Decision
+// What is decided by them.
+pub fn decided(asked: u8, broken: [u8; 6], speeds: [u8; 6]) -> Decision
+    ensures { λ r. ⌜ r ≡ decidedBy asked broken speeds ⌝ }
+{
+    let best = choose(asked, broken, speeds);
+    Decision {
+        broken: broken,
+        speeds: speeds,
+        granted: best.number,
+        speed: best.speed,
+    }
+}
+
+// What is decided by the cross-border book.
+pub fn decide_cross_border(f: Facts, o: Order) -> Decision
     ensures { λ r. ⌜ r ≡ decisionOf crossBorder f o ⌝ }
 {
     let p = family_of(false, Weigh::ThreeQuarters, f, o);
@@ -88,13 +106,16 @@ pub fn decide(f: Facts, o: Order) -> Decision
     let x3 = offered(p, first_p, Category::MA100_P100, f, o);
     let x4 = offered(g, first_g, Category::MA100_G100, f, o);
     let x5 = offered(g, first_g, Category::MA90_G90, f, o);
-    let broken = [x1.broken, x2.broken, x3.broken, x4.broken, x5.broken];
-    let speeds = [x1.speed, x2.speed, x3.speed, x4.speed, x5.speed];
-    let best = choose(o.asked, broken, speeds);
-    Decision {
-        broken: broken,
-        speeds: speeds,
-        granted: best.number,
-        speed: best.speed,
-    }
+    decided(
+        o.asked,
+        [
+            x1.broken,
+            x2.broken,
+            x3.broken,
+            x4.broken,
+            x5.broken,
+            ABSENT,
+        ],
+        [x1.speed, x2.speed, x3.speed, x4.speed, x5.speed, 0],
+    )
 }

@@ -1,3 +1,3 @@
-// The rules: which one is the first broken, and which category is granted.
+// Granting, of any rule book; the cross-border rules, and which one is the first broken.
 pub mod grant;
 mod rule;

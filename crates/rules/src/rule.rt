@@ -1,4 +1,4 @@
-// The rules: one list of numbers, one list of marks, and the first that is broken.
+// The cross-border rules: one list of numbers, one list of marks, and the first that is broken.
 ghost use mathlib.Core.Path.{_≡_};
 ghost use mathlib.Core.Bool.{not, cond};
 ghost use lib.ListN.{getD};
@@ -118,7 +118,7 @@ fn first_place(t: Terms, f: Facts) -> usize
 }
 
 pub(crate) fn family_of(isg: bool, w: Weigh, f: Facts, o: Order) -> Family
-    ensures { λ r. ⌜ r ≡ familyOf crossBorder isg w f o ⌝ }
+    ensures { λ r. ⌜ r ≡ familyOf isg w f o ⌝ }
 {
     let parts = parts(w, f);
     Family {
@@ -130,7 +130,7 @@ pub(crate) fn family_of(isg: bool, w: Weigh, f: Facts, o: Order) -> Family
 
 // Rule 47.
 fn is_short(m: Family, c: Category, f: Facts, o: Order) -> bool
-    requires { ⌜ m ≡ familyOf crossBorder (c .isg) (c .weigh) f o ⌝ }
+    requires { ⌜ m ≡ familyOf (c .isg) (c .weigh) f o ⌝ }
     ensures { λ r. ⌜ r ≡ isShort c f o ⌝ }
 {
     let parts = m.parts;
@@ -175,8 +175,8 @@ fn either(first: bool, x: u8, y: u8) -> u8
 
 // The first rule that a category breaks, or 0: its family's first, 30 at place 9 or 47 at place 20, whichever is asked before.
 pub(crate) fn broken_by(m: Family, first: u8, line: u8, c: Category, f: Facts, o: Order) -> u8
-    requires { ⌜ m ≡ familyOf crossBorder (c .isg) (c .weigh) f o ⌝ }
-    requires { ⌜ (first ≡ familyFirst crossBorder (c .isg) f o) × (line ≡ lineSpeed c o) ⌝ }
+    requires { ⌜ m ≡ familyOf (c .isg) (c .weigh) f o ⌝ }
+    requires { ⌜ (first ≡ familyFirst (c .isg) f o) × (line ≡ lineSpeed c o) ⌝ }
     ensures { λ r. ⌜ r ≡ brokenBy crossBorder c f o ⌝ }
 {
     let missing = (line == 0) & (9 < m.place);

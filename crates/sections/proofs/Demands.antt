@@ -1,18 +1,21 @@
--- Request One, "A sheet for the whole route": the theorems, over the definitions of specs/, of any rule book. Assumes nothing.
+-- Request One, "A sheet for the whole route", and Six: the theorems, over the definitions of specs/, of any rule book. Assumes nothing.
 use Prim.Native.Nat.{ℕ, _≤_, _<_}
 use native.Mathlib.Omega.{arith}
 use mathlib.Core.Path.{_≡_, sym, ap, _∙_}
-use mathlib.Core.Bool.{true, false}
+use mathlib.Core.Bool.{true, false, _&&_}
 use mathlib.Core.List.{List, [], _∷_, _++_}
 use mathlib.Core.Logic.{_⊎_, ⊎-elim}
 use lib.ListN.{length, getD, take, drop, replicate, length-map}
 use lib.Seq.{take-all}
-use Rattle.lists.specs.Words.{all, Every}
+use Rattle.lists.specs.Words.{_is_, all, Every}
 use Rattle.record.specs.Records.{recordCount, recordsOf}
-use Rattle.lists.proofs.Lists.{leading-behind}
+use Rattle.lists.proofs.Lists.{every-map, leading-behind}
 use Rattle.record.proofs.Records.{length-records}
 use Rattle.facts.specs.declared.Facts.{Facts}
-use Rattle.order.specs.Orders.{goodOrder, noOrder}
+use Rattle.record.specs.Ranges.{inRanges}
+use Rattle.order.specs.Orders.{crossBorderFields, goodOrder, orderOf, noOrder}
+use Rattle.order.specs.declared.Book.the-variants.{CrossBorder}
+use Rattle.order.specs.declared.Book.{Book}
 use Rattle.order.specs.declared.Order.{Order}
 use Rattle.categories.specs.Categories.{speedOf, categoryOf}
 use Rattle.categories.specs.declared.category.Category.{Category}
@@ -23,9 +26,10 @@ use Rattle.rules.specs.Grants.{bestOf, grantedOf, offersFrom, MayBeGranted, Amo
 use Rattle.rules.specs.declared.grant.Best.{Best}
 use Rattle.rules.proofs.Demands as rules
 use Rattle.rules.proofs.Demands.{category-among}
+use Rattle.books.specs.Books.{bookOf}
 use Rattle.sections.specs.Routes.{askedOn, slowestOf, brokenOn, grantedOn, sectionSpeed, speedsOn, Somewhere, MayBeGrantedOn, BreaksOn, OfferedOn}
 use Rattle.sections.specs.Gathering.{offersOn}
-use Rattle.sections.specs.Sections.{sectionsOf, askedIn, goodSection, leadingGood, laidOver}
+use Rattle.sections.specs.Sections.{sectionsOf, askedIn, bookNamedIn, goodSection, leadingGood, laidOver}
 use Rattle.sections.proofs.Asks as asks
 use Rattle.sections.proofs.Gathers as gathers
 use Rattle.sections.proofs.Places as places
@@ -36,9 +40,17 @@ use Rattle.sections.proofs.Routes as routes
 pub sections-count : (orders : List ℕ) → length (sectionsOf orders) ≡ recordCount orders
 sections-count = places.length-sections
 
--- ---- "all with the same asked category": where every section is good each asks for the first's
-pub all-ask-alike : (orders : List ℕ) → all (goodSection (askedIn orders)) (recordsOf orders) ≡ true → Every (λ o. o .asked ≡ askedIn orders) (sectionsOf orders)
-all-ask-alike orders = asks.good-alike (askedIn orders) (recordsOf orders)
+module _ (orders : List ℕ) (good : all (goodSection (askedIn orders) (bookNamedIn orders)) (recordsOf orders) ≡ true) where
+  alike : Every (λ o. (o .asked ≡ askedIn orders) × (o .book ≡ bookNamedIn orders)) (sectionsOf orders)
+  alike = asks.good-alike (askedIn orders) (bookNamedIn orders) (recordsOf orders) good
+
+  -- ---- "all with the same asked category": where every section is good each asks for the first's
+  pub all-ask-alike : Every (λ o. o .asked ≡ askedIn orders) (sectionsOf orders)
+  all-ask-alike = every-map _ _ (λ o two. two .0) (sectionsOf orders) alike
+
+  -- and names the first's book (request Six)
+  pub all-name-alike : Every (λ o. o .book ≡ bookNamedIn orders) (sectionsOf orders)
+  all-name-alike = every-map _ _ (λ o two. two .1) (sectionsOf orders) alike
 
 module _ (b : RuleBook) (f : Facts) where
   -- ---- "no rule broken on any section"
@@ -139,18 +151,22 @@ module _ (b : RuleBook) (f : Facts) where
   one-section-speed sound o =
       ap (λ (s : ℕ). s ∷ []) (alone-same b f sound (grantedOn b f (o ∷ []) .number) o (sym (ap (λ (g : Best). g .number) (one-section o))))
 
--- ---- "4 … for the first section with a field out of range or an asked category other than the first section's, with that section, counted from 0, as place"
-pub first-bad-section : (orders : List ℕ) (i : ℕ) → i < recordCount orders → all (goodSection (askedIn orders)) (take i (recordsOf orders)) ≡ true
-    → goodSection (askedIn orders) (getD (recordsOf orders) i []) ≡ false → leadingGood orders ≡ i
-first-bad-section orders i h = leading-behind (goodSection (askedIn orders)) (recordsOf orders) i [] (omega (arith, h, length-records (recordCount orders) orders))
+-- ---- "4 … for the first section with a field out of range or an asked category other than the first section's, with that section, counted from 0, as place", or "with another book than the first" (request Six)
+pub first-bad-section : (orders : List ℕ) (i : ℕ) → i < recordCount orders → all (goodSection (askedIn orders) (bookNamedIn orders)) (take i (recordsOf orders)) ≡ true
+    → goodSection (askedIn orders) (bookNamedIn orders) (getD (recordsOf orders) i []) ≡ false → leadingGood orders ≡ i
+first-bad-section orders i h = leading-behind (goodSection (askedIn orders) (bookNamedIn orders)) (recordsOf orders) i [] (omega (arith, h, length-records (recordCount orders) orders))
 
--- the first asks as the first does: it is good exactly when its fields are
-pub first-asks-itself : (orders : List ℕ) → goodSection (askedIn orders) (getD (recordsOf orders) 0 []) ≡ goodOrder (getD (recordsOf orders) 0 [])
+-- the first asks as the first does, by its book: it is good exactly when its fields are
+pub first-asks-itself : (orders : List ℕ) → goodSection (askedIn orders) (bookNamedIn orders) (getD (recordsOf orders) 0 []) ≡ goodOrder (getD (recordsOf orders) 0 [])
 first-asks-itself orders = asks.first-itself (recordsOf orders)
+
+-- where the first names the cross-border book, a section is good exactly as before request Six
+pub cross-section-kept : (asked : ℕ) (r : List ℕ) → goodSection asked CrossBorder r ≡ (inRanges crossBorderFields r && orderOf r .asked is asked)
+cross-section-kept = asks.cross-kept
 
 -- ---- how it is worked out
 -- what is granted is the best of the rules and speeds that are worked out for each category
-pub granted-of-offers : (f : Facts) (os : List Order) → bestOf (askedOn os) (offersFrom 1 (offersOn crossBorder f os .broken) (offersOn crossBorder f os .speeds)) ≡ grantedOn crossBorder f os
+pub granted-of-offers : (b : Book) (f : Facts) (os : List Order) → bestOf (askedOn os) (offersFrom 1 (offersOn (bookOf b) f os .broken) (offersOn (bookOf b) f os .speeds)) ≡ grantedOn (bookOf b) f os
 granted-of-offers = gathers.granted-by
 
 -- ---- rule 46, withdrawn by request Five

@@ -9,11 +9,13 @@ use lib.ListN.{length, getD, take, drop, set, drop-of-length-le, length-map, Lis
 use lib.Seq.{take-all, take-suc, drop-cons, length-take-le, set-at, append-snoc}
 use Rattle.record.specs.Records.{recordCount}
 use Rattle.facts.specs.declared.Facts.{Facts}
+use Rattle.order.specs.declared.Book.{Book}
 use Rattle.order.specs.declared.Order.{Order}
 use Rattle.order.specs.Orders.{orderOf, orderRead}
-use Rattle.categories.specs.Categories.{speedOf, categoryOf, crossRows}
+use Rattle.categories.specs.Categories.{speedOf, categoryOf, rowsOf}
 use Rattle.categories.specs.declared.category.Category.{Category}
-use Rattle.rules.specs.CrossBorder.{crossBorder}
+use Rattle.books.specs.Books.{bookOf}
+use Rattle.books.proofs.Demands.{book-rows}
 use Rattle.sections.specs.Routes.{sectionSpeed, speedsOn}
 use Rattle.sections.specs.Sections.{sectionsOf, laidOver}
 use Rattle.sections.proofs.Places.{length-sections, section-read, section-at}
@@ -49,15 +51,15 @@ module _ (bytes lent : List ℕ) where
           ap₂ (λ (x y : List ℕ). x ++ y) (ap (λ (k : ℕ). take k bytes) m) (drop-of-length-le lent d ∙ sym (drop-of-length-le lent t))
 
 -- ---- the speeds of a route, in the category of the number n
-module _ (n : ℕ) (f : Facts) (orders : List ℕ) where
-  pub length-speeds : length (speedsOn crossBorder n f (sectionsOf orders)) ≡ recordCount orders
-  length-speeds = length-map (sectionsOf orders) (sectionSpeed crossBorder n f) ∙ length-sections orders
+module _ (b : Book) (n : ℕ) (f : Facts) (orders : List ℕ) where
+  pub length-speeds : length (speedsOn (bookOf b) n f (sectionsOf orders)) ≡ recordCount orders
+  length-speeds = length-map (sectionsOf orders) (sectionSpeed (bookOf b) n f) ∙ length-sections orders
 
   -- what stands at i, as code works it out
   module _ (i : ℕ) (within : i < recordCount orders) (c : Category) (o : Order) where
-    pub speed-there : c ≡ categoryOf n crossRows → o ≡ orderRead (take (24 * i + 24 - 24 * i) (drop (24 * i) orders))
-        → speedOf c f o ≡ getD (speedsOn crossBorder n f (sectionsOf orders)) i (sectionSpeed crossBorder n f (orderOf []))
-    unfolding sectionSpeed crossBorder
+    pub speed-there : c ≡ categoryOf n (rowsOf b) → o ≡ orderRead (take (24 * i + 24 - 24 * i) (drop (24 * i) orders))
+        → speedOf c f o ≡ getD (speedsOn (bookOf b) n f (sectionsOf orders)) i (sectionSpeed (bookOf b) n f (orderOf []))
+    unfolding sectionSpeed
     speed-there d e =
-        ap₂ (λ (c : Category) (o : Order). speedOf c f o) d (e ∙ section-read orders i within ∙ sym (section-at orders i within))
-        ∙ sym (List·getD-map (sectionSpeed crossBorder n f) (sectionsOf orders) i (orderOf []))
+        ap₂ (λ (c : Category) (o : Order). speedOf c f o) (d ∙ ap (categoryOf n) (sym (book-rows b))) (e ∙ section-read orders i within ∙ sym (section-at orders i within))
+        ∙ sym (List·getD-map (sectionSpeed (bookOf b) n f) (sectionsOf orders) i (orderOf []))

@@ -6,6 +6,8 @@ use mathlib.Core.Logic.{_⊎_}
 use Rattle.lists.specs.Words.{Every}
 use Rattle.lists.specs.Figures.{least}
 use Rattle.facts.specs.declared.Facts.{Facts}
+use Rattle.order.specs.Orders.{noOrder}
+use Rattle.order.specs.declared.Book.{Book}
 use Rattle.order.specs.declared.Order.{Order}
 use Rattle.categories.specs.Categories.{firstPresent, speedOf, categoryOf}
 use Rattle.categories.specs.declared.category.Category.{Category}
@@ -14,10 +16,18 @@ use Rattle.rules.specs.Grants.{offer, bestOf, Among}
 use Rattle.rules.specs.declared.grant.Offer.{Offer}
 use Rattle.rules.specs.declared.grant.Best.{Best}
 
--- "all with the same asked category": the first section's, and 0 where there is no section
+-- the first section; where there is none, the order of zeros, which asks for 0 by the cross-border book
+abbrev pub firstOn : List Order → Order
+firstOn [] = noOrder
+firstOn (o ∷ os) = o
+
+-- "all with the same asked category": the first section's
 abbrev pub askedOn : List Order → ℕ
-askedOn [] = 0
-askedOn (o ∷ os) = o .asked
+askedOn os = firstOn os .asked
+
+-- the book that a route is judged by: the first section's (request Six)
+abbrev pub bookOn : List Order → Book
+bookOn os = firstOn os .book
 
 -- a category's speed on a route: the slowest section's, none being faster than its own
 unfoldable pub slowestOf : Category → Facts → List Order → ℕ

@@ -9,6 +9,7 @@ use Rattle.record.specs.declared.vehicle.Vehicle.{Vehicle}
 use Rattle.facts.specs.Facts.{factsOf}
 use Rattle.facts.specs.declared.Facts.{Facts}
 use Rattle.order.specs.Orders.{orderOf}
+use Rattle.order.specs.declared.Book.the-variants.{CrossBorder}
 use Rattle.order.specs.declared.Order.{Order}
 use Rattle.categories.specs.Categories.{categoryOf, crossRows}
 use Rattle.categories.specs.Brakes.{deductionOf, marginFor}
@@ -59,7 +60,7 @@ sheetA =
 -- ---- B to H, as what their records say
 -- A's order, with this category asked
 abbrev asking : ℕ → Order
-asking asked = record { limits = replicate 5 100; asked = asked; german = 0; coupling = 100000; admissible = 100000 }
+asking asked = record { book = CrossBorder; limits = 0 ∷ replicate 5 100; asked = asked; german = 0; coupling = 100000; admissible = 100000 }
 
 -- 4 axles, joined, other flags 0; the number, here 18 for each, is read by no rule and stands on no sheet
 abbrev vehicle : ℕ → ℕ → ℕ → ℕ → ℕ → ℕ → ℕ → Vehicle

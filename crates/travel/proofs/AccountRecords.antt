@@ -111,7 +111,7 @@ settings-back (s ∷ l) k =
 module _ (a : Account) where
   record-plain : isPlain (recordOf a) ≡ true
   unfolding isPlain all
-  record-plain = λ i. (mark-fits (a .behind) i && (mark-fits (a .rule16) i && (mark-fits (a .rule17) i && (mark-fits (a .rule18) i && true)))) && true
+  record-plain = λ i. (mark-fits (a .behind) i && (mark-fits (a .rule16) i && (mark-fits (a .rule17) i && (mark-fits (a .rule18) i && (mark-fits (a .enginenotm) i && true))))) && true
 
   record-offered : offered (recordOf a) ≡ accountIn (recordOf a)
   record-offered = sym (offered-by-test (recordOf a) true record-plain)
@@ -144,6 +144,9 @@ module _ (a : Account) where
         slowest = four-back (a .slowest) i;
         first = first i;
         vlength = four-back (a .vlength) i;
+        enginemmass = four-back (a .enginemmass) i;
+        wagonvmass = four-back (a .wagonvmass) i;
+        enginenotm = mark-back (a .enginenotm) i;
       })
 
   pub record-within : within (offered (recordOf a)) ≡ within a

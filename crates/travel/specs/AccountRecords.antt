@@ -13,7 +13,7 @@ abbrev pub size : ℕ
 size = 128
 
 abbrev pub unusedFrom : ℕ
-unusedFrom = 73
+unusedFrom = 82
 
 -- ---- reading
 -- the number in the four bytes from s on
@@ -56,12 +56,16 @@ accountIn bs =
       first = byteAt 64 bs ∷ byteAt 65 bs ∷ byteAt 66 bs ∷ byteAt 67 bs ∷ byteAt 68 bs ∷ [];
       -- 69-72 length of records set to V
       vlength = figureAt 69 bs;
+      -- 73-76 M masses of hauled engines set to M, 77-80 V masses of wagons set to M, 81 mark: a hauled engine is not set to M
+      enginemmass = figureAt 73 bs;
+      wagonvmass = figureAt 77 bs;
+      enginenotm = byteAt 81 bs is 1;
     }
 
 abbrev pub marksIn : List ℕ → List ℕ
-marksIn bs = byteAt 56 bs ∷ byteAt 57 bs ∷ byteAt 58 bs ∷ byteAt 59 bs ∷ []
+marksIn bs = byteAt 56 bs ∷ byteAt 57 bs ∷ byteAt 58 bs ∷ byteAt 59 bs ∷ byteAt 81 bs ∷ []
 
--- 73-127
+-- 82-127
 abbrev pub unusedIn : List ℕ → List ℕ
 unusedIn bs = drop unusedFrom bs
 
@@ -123,5 +127,10 @@ recordOf a =
     ++ map settingByte (five (a .first))
     -- 69-72
     ++ figureBytes (a .vlength)
-    -- 73-127 not used
+    -- 73-80
+    ++ figureBytes (a .enginemmass)
+    ++ figureBytes (a .wagonvmass)
+    -- 81
+    ++ (mark (a .enginenotm) ∷ [])
+    -- 82-127 not used
     ++ replicate (size - unusedFrom) 0

@@ -12,7 +12,7 @@ use lists::number::number;
 pub const SIZE: usize = 128;
 
 // The first byte that is not used.
-const UNUSED: usize = 73;
+const UNUSED: usize = 82;
 
 // The number in the four bytes from `at` on.
 fn figure(bytes: &[u8], at: usize) -> u32
@@ -70,6 +70,9 @@ fn account_in(bytes: &[u8]) -> Account
         slowest: figure(bytes, 60),
         first: first,
         vlength: figure(bytes, 69),
+        enginemmass: figure(bytes, 73),
+        wagonvmass: figure(bytes, 77),
+        enginenotm: bytes[81] == 1,
     }
 }
 
@@ -98,6 +101,7 @@ fn is_plain(bytes: &[u8]) -> bool
         & (bytes[57] <= 1)
         & (bytes[58] <= 1)
         & (bytes[59] <= 1)
+        & (bytes[81] <= 1)
         & is_rest_unused(bytes)
 }
 
@@ -127,6 +131,9 @@ fn above_ceiling() -> Account
         slowest: 0,
         first: [0; 5],
         vlength: 0,
+        enginemmass: 0,
+        wagonvmass: 0,
+        enginenotm: false,
     }
 }
 
@@ -196,5 +203,8 @@ pub fn record_of(a: Account) -> [u8; SIZE]
     bytes[67] = setting_byte(first[3]);
     bytes[68] = setting_byte(first[4]);
     put_figure(&mut bytes, 69, a.vlength);
+    put_figure(&mut bytes, 73, a.enginemmass);
+    put_figure(&mut bytes, 77, a.wagonvmass);
+    bytes[81] = mark_of(a.enginenotm);
     bytes
 }

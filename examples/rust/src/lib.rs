@@ -3,6 +3,8 @@
 //! The library takes any bytes and always returns, so no function here asks anything of its caller.
 //! An empty slice has a dangling pointer that is not null, which is all the header asks of it.
 //!
+//! Byte 7 of an order names its rule book, 0 cross-border or 1 domestic; vehicles and accounts are the same for both.
+//!
 //! A vehicle's number is 1 to 999,999,999,999 and closes: its twelve digits, leading zeros counted, sum to a multiple of
 //! ten, those in odd places from the left being doubled first and their digits added. One that does not is out of range.
 
@@ -12,6 +14,7 @@ use std::fmt;
 pub const VEHICLE: usize = 24;
 pub const ORDER: usize = 24;
 pub const SHEET: usize = 32;
+pub const DOMESTIC_SHEET: usize = 33;
 pub const ACCOUNT: usize = 128;
 
 /// The most sections that a route may have.
@@ -35,6 +38,13 @@ pub struct Refusal {
 #[derive(Clone, Copy, Debug, PartialEq, Eq)]
 pub struct Account(pub [u8; ACCOUNT]);
 
+/// A sheet, of the book that its order named.
+#[derive(Clone, Copy, Debug, PartialEq, Eq)]
+pub enum Sheet {
+    CrossBorder([u8; SHEET]),
+    Domestic([u8; DOMESTIC_SHEET]),
+}
+
 /// What a route's call answers: beside the answer the granted category, 0 where none is.
 #[derive(Clone, Copy, Debug, PartialEq, Eq)]
 pub struct RouteAnswer {
@@ -50,13 +60,13 @@ pub struct Route {
 }
 
 /// The sheet of a whole train, its working engines in front.
-pub fn sheet_of_train(vehicles: &[u8], order: &[u8]) -> Result<[u8; SHEET], Refusal> {
-    let mut sheet = [0; SHEET];
-    write_sheet_of_train(vehicles, order, &mut sheet).done()?;
-    Ok(sheet)
+pub fn sheet_of_train(vehicles: &[u8], order: &[u8]) -> Result<Sheet, Refusal> {
+    let mut room = [0; DOMESTIC_SHEET];
+    write_sheet_of_train(vehicles, order, &mut room).done()?;
+    Ok(Sheet::of(order, room))
 }
 
-/// The same into a lent sheet: its first 32 bytes are written when done, none when refused.
+/// The same into a lent sheet: its first 32 bytes, 33 of a domestic order, are written when done, none when refused.
 pub fn write_sheet_of_train(vehicles: &[u8], order: &[u8], sheet: &mut [u8]) -> Answer {
     // SAFETY: each pointer comes from a slice with its own length, so it is not null and good for that many bytes;
     // `sheet` is borrowed mutably, so it overlaps neither of the others; any bytes are answered.
@@ -109,17 +119,13 @@ pub fn join(left: &Account, right: &Account) -> Result<Account, Refusal> {
 }
 
 /// The sheet of one or two working engines with the account of what they haul.
-pub fn sheet_of_account(
-    engines: &[u8],
-    hauled: &Account,
-    order: &[u8],
-) -> Result<[u8; SHEET], Refusal> {
-    let mut sheet = [0; SHEET];
-    write_sheet_of_account(engines, hauled, order, &mut sheet).done()?;
-    Ok(sheet)
+pub fn sheet_of_account(engines: &[u8], hauled: &Account, order: &[u8]) -> Result<Sheet, Refusal> {
+    let mut room = [0; DOMESTIC_SHEET];
+    write_sheet_of_account(engines, hauled, order, &mut room).done()?;
+    Ok(Sheet::of(order, room))
 }
 
-/// The same into a lent sheet: its first 32 bytes are written when done, none when refused.
+/// The same into a lent sheet: its first 32 bytes, 33 of a domestic order, are written when done, none when refused.
 pub fn write_sheet_of_account(
     engines: &[u8],
     hauled: &Account,
@@ -160,7 +166,7 @@ pub fn holds_the_speed(front: &[u8], back: &[u8]) -> Option<[u8; VEHICLE]> {
     (written == VEHICLE).then_some(vehicle)
 }
 
-/// The route of a whole train over 1 to 64 orders, a section each.
+/// The route of a whole train over 1 to 64 orders of one book, a section each.
 pub fn route_of_train(vehicles: &[u8], orders: &[u8]) -> Result<Route, Refusal> {
     let mut speeds = [0; SECTIONS];
     let answer = write_route_of_train(vehicles, orders, &mut speeds);
@@ -210,6 +216,42 @@ pub fn write_route_of_account(
             speeds.len(),
         )
     })
+}
+
+impl Sheet {
+    /// The sheet in the room that a done call had: of a cross-border order the last byte was not written.
+    fn of(order: &[u8], room: [u8; DOMESTIC_SHEET]) -> Sheet {
+        if order.get(7) == Some(&1) {
+            return Sheet::Domestic(room);
+        }
+        let [sheet @ .., _] = room;
+        Sheet::CrossBorder(sheet)
+    }
+
+    /// All its bytes.
+    pub fn bytes(&self) -> &[u8] {
+        match self {
+            Sheet::CrossBorder(sheet) => sheet,
+            Sheet::Domestic(sheet) => sheet,
+        }
+    }
+
+    /// The first rule broken by each category, from category 1 on, or 0.
+    pub fn rules(&self) -> &[u8] {
+        match self {
+            Sheet::CrossBorder(sheet) => &sheet[4..9],
+            Sheet::Domestic(sheet) => &sheet[4..10],
+        }
+    }
+
+    /// What stands behind the rule bytes, the same in both books: D loads, margin, p, mark, isolated records, masses
+    /// and length.
+    pub fn figures(&self) -> &[u8] {
+        match self {
+            Sheet::CrossBorder(sheet) => &sheet[9..],
+            Sheet::Domestic(sheet) => &sheet[10..],
+        }
+    }
 }
 
 impl RouteAnswer {
@@ -272,8 +314,8 @@ impl Refusal {
             1 => "the list is empty or not a multiple of 24 bytes",
             2 => "more than 200 records together; in joining accounts, a joined figure above its ceiling",
             3 => "a field out of range; the place is the first such record, counted from 0",
-            4 => "the order record is not 24 bytes or has a field out of range; of a route, the orders are not whole, none or more than 64, or the section at this place, counted from 0, is out of range or asks for another category",
-            5 => "the lent sheet is shorter than 32 bytes, or fewer bytes are lent than a route has sections",
+            4 => "the order record is not 24 bytes or has a field out of range; of a route, the orders are not whole, none or more than 64, or the section at this place, counted from 0, is out of range, asks for another category or names another book",
+            5 => "the lent sheet is shorter than 32 bytes, of a domestic order than 33, or fewer bytes are lent than a route has sections",
             6 => "a working engine in a portion offered as hauled",
             7 => "an account with a figure above its ceiling",
             11 => "the first record is not a working engine; with engines lent apart, any of them is not",

@@ -1,5 +1,6 @@
 //! The product's static library against the model: differences, ranges, time and instructions.
 
+use std::io::{self, Write};
 use std::process::ExitCode;
 use std::sync::atomic::{AtomicU64, Ordering};
 use std::thread;
@@ -7,14 +8,17 @@ use std::time::Duration;
 
 use oracle::call::{Model, Side};
 use oracle::coverage::Scope;
-use oracle::diff::{Report, Run, KINDS};
+use oracle::diff::{Report, Run, Sizes, KINDS};
 use oracle::{ranges, speed};
 
-const USAGE: &str = "usage: compare diff SEED TRAINS JOINS ROUTES NUMBERS
-       compare soak N [SEED]
+const USAGE: &str = "usage: compare diff SEED TRAINS JOINS ROUTES NUMBERS DOMESTIC_TRAINS DOMESTIC_JOINS DOMESTIC_ROUTES
+       compare soak N [SEED [domestic]]
        compare ranges FILE
        compare speed
-       compare instructions library|model train|account|join|judge|refusal|route|sheets SIZE REPEAT";
+       compare instructions library|model WHAT SIZE REPEAT
+       compare frames WHAT SIZE COUNT
+       WHAT: train|domestic|account|join|judge|judge-domestic|standing|standing-domestic|standing-account|standing-account-domestic|\
+refusal|route|sheets";
 
 /// The functions of the header, as they are declared there.
 mod c {
@@ -196,17 +200,18 @@ fn main() -> ExitCode {
     let arguments: Vec<&str> = arguments.iter().map(String::as_str).collect();
     let number = |text: &str| text.parse::<u64>().ok();
     let outcome = match arguments[..] {
-        ["diff", seed, trains, joins, routes, numbers] => {
-            let counts = [trains, joins, routes, numbers].map(number);
-            number(seed)
-                .zip(all(counts))
-                .map(|(seed, counts)| diff(seed, counts))
+        ["diff", seed, ..] => number(seed)
+            .zip(sizes(&arguments[2..]))
+            .map(|(seed, sizes)| diff(seed, &sizes)),
+        ["soak", cases] => number(cases).map(|cases| soak(&mixed(cases), 1, Scope::Functions)),
+        ["soak", cases, seed] => {
+            let both = number(cases).zip(number(seed));
+            both.map(|(cases, seed)| soak(&mixed(cases), seed, Scope::Functions))
         }
-        ["soak", cases] => number(cases).map(|cases| soak(cases, 1)),
-        ["soak", cases, seed] => match (number(cases), number(seed)) {
-            (Some(cases), Some(seed)) => Some(soak(cases, seed)),
-            _ => None,
-        },
+        ["soak", cases, seed, "domestic"] => {
+            let both = number(cases).zip(number(seed));
+            both.map(|(cases, seed)| soak(&domestic(cases), seed, Scope::Domestic))
+        }
         ["ranges", file] => Some(ranges(file)),
         ["speed"] => {
             print!("{}", speed::table(&Library));
@@ -214,6 +219,10 @@ fn main() -> ExitCode {
         }
         ["instructions", who, what, size, repeat] => match (number(size), number(repeat)) {
             (Some(size), Some(repeat)) => instructions(who, what, size, repeat),
+            _ => None,
+        },
+        ["frames", what, size, count] => match (number(size), number(count)) {
+            (Some(size), Some(count)) => frames(what, size, count as usize),
             _ => None,
         },
         _ => None,
@@ -224,27 +233,46 @@ fn main() -> ExitCode {
     })
 }
 
-/// All of them, if each is a number.
-fn all(counts: [Option<u64>; 4]) -> Option<[u64; 4]> {
-    let [trains, joins, routes, numbers] = counts;
-    Some([trains?, joins?, routes?, numbers?])
+/// The sizes of a run, if each is a number.
+fn sizes(arguments: &[&str]) -> Option<Sizes> {
+    let counts: Result<Vec<u64>, _> = arguments.iter().map(|text| text.parse()).collect();
+    Some(Sizes::of(counts.ok()?.try_into().ok()?))
 }
 
-fn diff(seed: u64, [trains, joins, routes, numbers]: [u64; 4]) -> ExitCode {
+fn diff(seed: u64, sizes: &Sizes) -> ExitCode {
     let run = Run {
         library: &Library,
         seed,
         done: &AtomicU64::new(0),
     };
-    finish(&run.cases(0..trains, 0..joins, 0..routes, 0..numbers))
+    finish(&run.cases(sizes), Scope::Functions)
 }
 
-/// One vehicle number in a hundred, then trains, joins and routes, a third each, on two threads that take every other index.
-fn soak(cases: u64, seed: u64) -> ExitCode {
+/// One vehicle number in a hundred, then trains, joins and routes, a third each, half of them domestic.
+fn mixed(cases: u64) -> Sizes {
     let numbers = cases / 100;
-    let trains = (cases - numbers) / 3;
-    let joins = trains;
-    let routes = cases - numbers - trains - joins;
+    let third = (cases - numbers) / 3;
+    let halves = |count: u64| [count - count / 2, count / 2];
+    Sizes {
+        trains: halves(third),
+        joins: halves(third),
+        routes: halves(cases - numbers - 2 * third),
+        numbers,
+    }
+}
+
+/// So many domestic trains, and beside them a tenth as many domestic joins and a twentieth as many domestic routes.
+fn domestic(trains: u64) -> Sizes {
+    Sizes {
+        trains: [0, trains],
+        joins: [0, trains / 10],
+        routes: [0, trains / 20],
+        numbers: 0,
+    }
+}
+
+/// On two threads that take every other index.
+fn soak(sizes: &Sizes, seed: u64, scope: Scope) -> ExitCode {
     let done = AtomicU64::new(0);
     let half = |first: usize| {
         let run = Run {
@@ -252,24 +280,20 @@ fn soak(cases: u64, seed: u64) -> ExitCode {
             seed,
             done: &done,
         };
-        let every_other = |end: u64| (0..end).skip(first).step_by(2);
-        run.cases(
-            every_other(trains),
-            every_other(joins),
-            every_other(routes),
-            every_other(numbers),
-        )
+        run.every(sizes, first, 2)
     };
     let report = thread::scope(|scope| {
         let workers = [0, 1].map(|first| scope.spawn(move || half(first)));
-        watch(&done, cases, || workers.iter().all(|one| one.is_finished()));
+        watch(&done, sizes.cases(), || {
+            workers.iter().all(|one| one.is_finished())
+        });
         let mut report = Report::default();
         for worker in workers {
             report.add(worker.join().expect("a thread of the soak broke off"));
         }
         report
     });
-    finish(&report)
+    finish(&report, scope)
 }
 
 /// The page of ranges against both.
@@ -298,15 +322,17 @@ fn watch(done: &AtomicU64, cases: u64, finished: impl Fn() -> bool) {
     }
 }
 
-fn finish(report: &Report) -> ExitCode {
+/// What has to be met is that of the scope.
+fn finish(report: &Report, scope: Scope) -> ExitCode {
     print!("{}", report.coverage.table(Scope::Functions));
     println!("compared cases");
     for (kind, count) in KINDS.iter().zip(report.kinds) {
         println!("  {kind:<24} {count:>9}");
     }
     println!("  routes in all            {:>9}", report.routes());
+    println!("  domestic in all          {:>9}", report.domestic());
     println!("  calls in all             {:>9}", report.calls);
-    let missing = report.coverage.missing(Scope::Functions);
+    let missing = report.coverage.missing(scope);
     for what in &missing {
         println!("never met: {what}");
     }
@@ -326,6 +352,34 @@ fn finish(report: &Report) -> ExitCode {
         true => ExitCode::SUCCESS,
         false => ExitCode::FAILURE,
     }
+}
+
+/// Writes the first calls of a workload as oracle/emulated/server.c reads them: function, three lengths, room, then the bytes.
+fn frames(what: &str, size: u64, count: usize) -> Option<ExitCode> {
+    let mut bytes = vec![];
+    for call in speed::workload(what, size as usize)?
+        .calls
+        .iter()
+        .take(count)
+    {
+        let inputs = call.inputs.parts();
+        let length = |place: usize| inputs.get(place).map_or(0, |part| part.1.len());
+        let head = [
+            call.function() as usize,
+            length(0),
+            length(1),
+            length(2),
+            call.room,
+        ];
+        bytes.extend(
+            head.map(|number| (number as u32).to_le_bytes())
+                .as_flattened(),
+        );
+        inputs.iter().for_each(|(_, part)| bytes.extend(*part));
+        bytes.resize(bytes.len() + call.room, 0);
+    }
+    io::stdout().write_all(&bytes).ok()?;
+    Some(ExitCode::SUCCESS)
 }
 
 /// Prints how many calls and records one pass has, so that a count of instructions can be divided.

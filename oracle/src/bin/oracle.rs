@@ -8,15 +8,18 @@ use std::sync::atomic::AtomicU64;
 
 use oracle::call::{Call, Inputs, Model};
 use oracle::coverage::{Coverage, Scope};
-use oracle::diff::Run;
+use oracle::diff::{Run, Sizes};
 use oracle::gen::cases::{cases, worked_route};
-use oracle::gen::vectors::{inputs, route_inputs};
+use oracle::gen::domestic_cases::domestic_cases;
+use oracle::gen::vectors::{domestic_inputs, domestic_route_inputs, inputs, route_inputs};
 use oracle::line::{line, route_line, route_parts, MOST_INPUT, MOST_ROUTE};
 use oracle::ranges::hold_file;
 use oracle::route::SECTIONS;
 use oracle::withdrawal::is_as_before;
 
-const USAGE: &str = "usage: oracle line | oracle route | oracle vectors DIR SEED SHEETS ROUTES | oracle counts SEED N | oracle ranges FILE";
+const USAGE: &str = "usage: oracle line | oracle route | oracle ranges FILE
+       oracle vectors DIR SEED SHEETS ROUTES DOMESTIC_SHEETS DOMESTIC_ROUTES
+       oracle counts SEED TRAINS JOINS ROUTES NUMBERS DOMESTIC_TRAINS DOMESTIC_JOINS DOMESTIC_ROUTES";
 
 /// The byte before an input that says whose it is.
 const SHEETS: u8 = 0;
@@ -28,16 +31,12 @@ fn main() -> ExitCode {
     let outcome = match arguments[..] {
         ["line"] => write_line(MOST_INPUT, line),
         ["route"] => write_line(MOST_ROUTE, route_line),
-        ["vectors", folder, seed, sheets, routes] => {
-            match (seed.parse(), sheets.parse(), routes.parse()) {
-                (Ok(seed), Ok(sheets), Ok(routes)) => {
-                    vectors(Path::new(folder), seed, sheets, routes)
-                }
-                _ => Err(io::Error::other(USAGE)),
-            }
-        }
-        ["counts", seed, cases] => match (seed.parse(), cases.parse()) {
-            (Ok(seed), Ok(cases)) => counts(seed, cases),
+        ["vectors", folder, seed, ..] => match (seed.parse(), numbers(&arguments[3..])) {
+            (Ok(seed), Some(counts)) => vectors(Path::new(folder), seed, counts),
+            _ => Err(io::Error::other(USAGE)),
+        },
+        ["counts", seed, ..] => match (seed.parse(), numbers(&arguments[2..])) {
+            (Ok(seed), Some(counts)) => met(seed, &Sizes::of(counts)),
             _ => Err(io::Error::other(USAGE)),
         },
         ["ranges", file] => ranges(file),
@@ -47,6 +46,12 @@ fn main() -> ExitCode {
         eprintln!("oracle: {error}");
         ExitCode::from(2)
     })
+}
+
+/// As many numbers as are asked for.
+fn numbers<const N: usize>(arguments: &[&str]) -> Option<[u64; N]> {
+    let numbers: Result<Vec<u64>, _> = arguments.iter().map(|text| text.parse()).collect();
+    numbers.ok()?.try_into().ok()
 }
 
 fn write_line(most: usize, line: fn(&[u8]) -> String) -> io::Result<ExitCode> {
@@ -82,9 +87,10 @@ impl Frames {
     }
 }
 
-fn vectors(folder: &Path, seed: u64, sheets: usize, routes: usize) -> io::Result<ExitCode> {
+fn vectors(folder: &Path, seed: u64, counts: [u64; 4]) -> io::Result<ExitCode> {
+    let [sheets, routes, domestic_sheets, domestic_routes] = counts.map(|count| count as usize);
     let mut frames = Frames::default();
-    for case in cases() {
+    for case in cases().into_iter().chain(domestic_cases()) {
         print!("case {:<21} {}", case.name, line(&case.draft.input()));
     }
     print!(
@@ -92,10 +98,15 @@ fn vectors(folder: &Path, seed: u64, sheets: usize, routes: usize) -> io::Result
         "A, three sections",
         route_line(&worked_route())
     );
-    for input in inputs(seed, sheets) {
+    let of_sheets = [inputs(seed, sheets), domestic_inputs(seed, domestic_sheets)];
+    for input in of_sheets.into_iter().flatten() {
         frames.add(SHEETS, &input, &line(&input), sheet_call(&input));
     }
-    for input in route_inputs(seed, routes) {
+    let of_routes = [
+        route_inputs(seed, routes),
+        domestic_route_inputs(seed, domestic_routes),
+    ];
+    for input in of_routes.into_iter().flatten() {
         frames.add(ROUTES, &input, &route_line(&input), route_call(&input));
     }
     fs::create_dir_all(folder)?;
@@ -118,7 +129,7 @@ fn sheet_call(input: &[u8]) -> Call {
             vehicles: vehicles.to_vec(),
             order: order.to_vec(),
         },
-        room: 32,
+        room: 33,
         fill: 0,
     }
 }
@@ -136,14 +147,13 @@ fn route_call(input: &[u8]) -> Call {
 }
 
 /// The model on both sides: what it meets is of interest, and that it keeps to the former list.
-fn counts(seed: u64, cases: u64) -> io::Result<ExitCode> {
+fn met(seed: u64, sizes: &Sizes) -> io::Result<ExitCode> {
     let run = Run {
         library: &Model,
         seed,
         done: &AtomicU64::new(0),
     };
-    // A number brings some 150 calls, so a fortieth of them is enough.
-    let report = run.cases(0..cases, 0..cases, 0..cases, 0..cases / 40);
+    let report = run.cases(sizes);
     for difference in &report.shown {
         print!("{difference}");
     }

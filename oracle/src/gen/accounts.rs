@@ -5,7 +5,8 @@ use super::draft::bytes;
 use super::lengths::BOUNDS;
 use super::trains::{plain_train, train, Size};
 use crate::account::{Account, ACCOUNT, NO_SETTING};
-use crate::category::CATEGORIES;
+use crate::book::Book;
+use crate::category::CROSS_BORDER_CATEGORIES;
 use crate::facts::Facts;
 use crate::offered::probes;
 use crate::order::Order;
@@ -22,7 +23,7 @@ const fn figure(at: usize, width: usize, high: u64) -> Span {
 }
 
 /// Every figure, mark and setting of the 128-byte record with its ceiling.
-pub const FIGURES: [Span; 25] = [
+pub const FIGURES: [Span; 28] = [
     figure(0, 4, 200),
     figure(4, 4, 500_000),
     figure(8, 4, 500_000),
@@ -48,13 +49,16 @@ pub const FIGURES: [Span; 25] = [
     figure(67, 1, 4),
     figure(68, 1, 4),
     figure(69, 4, 200_000),
+    figure(73, 4, 500_000),
+    figure(77, 4, 500_000),
+    figure(81, 1, 1),
 ];
 
 /// The first byte that no figure has; it and those behind it are 0.
-pub const UNUSED: usize = 73;
+pub const UNUSED: usize = 82;
 
 /// The figures that joining adds up, by their places in the table; runs may be added too.
-const SUMS: [usize; 15] = [0, 1, 2, 3, 4, 5, 6, 7, 8, 9, 10, 11, 12, 13, 24];
+const SUMS: [usize; 17] = [0, 1, 2, 3, 4, 5, 6, 7, 8, 9, 10, 11, 12, 13, 24, 25, 26];
 
 pub type AccountBytes = [u8; ACCOUNT];
 
@@ -73,8 +77,9 @@ pub fn good_account(random: &mut Random) -> AccountBytes {
 fn listed(random: &mut Random) -> AccountBytes {
     let hauled = match random.below(10) {
         0 => vec![],
-        1..5 => train(random, Size::Any).hauled,
-        _ => plain_train(random, Size::Few).hauled,
+        1..3 => train(random, Book::CrossBorder, Size::Any).hauled,
+        3..5 => train(random, Book::Domestic, Size::Any).hauled,
+        _ => plain_train(random, Book::CrossBorder, Size::Few).hauled,
     };
     account_of(&hauled)
 }
@@ -142,6 +147,9 @@ pub fn plausible(random: &mut Random) -> Account {
         slowest: random.pick(&[0, 1, 80, 90, 91, 100, 100, 120, 120, 200]),
         first,
         length_v: plausible_length_v(random, length),
+        engines_m: random.pick(&[0, 0, braked_m, 500_000]),
+        wagons_v: random.pick(&[0, 0, braked_v, 500_000]),
+        engine_not_in_m: random.percent(20),
     }
 }
 
@@ -168,7 +176,7 @@ pub fn longer_in_v(random: &mut Random, working: &[Vehicle], order: &Order) -> A
         ..Account::EMPTY
     };
     let facts = Facts::of_account(bytes(working).as_chunks().0, &account);
-    let short = -CATEGORIES[random.below(3)].margin(&facts, order);
+    let short = -CROSS_BORDER_CATEGORIES[random.below(3)].margin(&facts, order);
     let missing = short.div_euclid(4 * (100 - facts.k));
     account.braked_v = (missing + random.around()).clamp(0, 500_000) as u32;
     account
@@ -245,8 +253,8 @@ pub fn any_account(random: &mut Random) -> Vec<u8> {
 
 /// Two accounts whose joined figure stands at its ceiling, one below or one above.
 pub fn pair_at_ceiling(random: &mut Random) -> (AccountBytes, AccountBytes) {
-    let mut left = account_of(&plain_train(random, Size::Few).hauled);
-    let mut right = account_of(&plain_train(random, Size::Few).hauled);
+    let mut left = account_of(&plain_train(random, Book::CrossBorder, Size::Few).hauled);
+    let mut right = account_of(&plain_train(random, Book::CrossBorder, Size::Few).hauled);
     if random.percent(30) {
         fill_with_runs(random, &mut left);
         fill_with_runs(random, &mut right);

@@ -3,6 +3,7 @@
 use super::draft::{aim, Draft, BRAKED_V, LENGTH, MASS};
 use super::numbers::LEAST;
 use super::routes::written;
+use crate::book::Book;
 use crate::order::Order;
 use crate::vehicle::{Vehicle, ISOLATED, SET_TO_M, SET_TO_V, WAGON, WORKING_ENGINE};
 
@@ -96,7 +97,9 @@ fn case_a_with(wagon_v: u16) -> Draft {
         ..engine
     };
     let order = Order {
+        book: Book::CrossBorder,
         limits: [100; 5],
+        me140: 0,
         asked: 1,
         percentage: 0,
         coupling: 100_000,
@@ -175,7 +178,7 @@ fn case_h(run: usize) -> Draft {
 mod tests {
     use super::*;
     use crate::calls::sheet_of_train;
-    use crate::category::CATEGORIES;
+    use crate::category::CROSS_BORDER_CATEGORIES;
     use crate::line::line;
 
     fn sheet(draft: &Draft) -> [u8; 32] {
@@ -193,7 +196,7 @@ mod tests {
     }
 
     fn margin(draft: &Draft) -> i64 {
-        CATEGORIES[0].margin(&draft.facts(), &draft.order)
+        CROSS_BORDER_CATEGORIES[0].margin(&draft.facts(), &draft.order)
     }
 
     #[test]

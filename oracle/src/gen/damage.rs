@@ -2,7 +2,9 @@
 
 use super::draft::Draft;
 use super::numbers::refused;
+use crate::book::Book;
 use crate::call::{Call, Inputs};
+use crate::order::ORDER;
 use crate::random::Random;
 use crate::vehicle::{HAULED_ENGINE, VEHICLE, WAGON, WORKING_ENGINE};
 
@@ -40,26 +42,55 @@ pub const VEHICLE_FIELDS: [Span; 12] = [
     span(23, 1, 0, 0),
 ];
 
-pub const ORDER_FIELDS: [Span; 18] = [
-    span(0, 1, 0, 200),
-    span(1, 1, 0, 200),
-    span(2, 1, 0, 200),
-    span(3, 1, 0, 200),
-    span(4, 1, 0, 200),
-    span(5, 1, 1, 5),
-    span(6, 1, 0, 200),
-    span(7, 1, 0, 0),
-    span(8, 4, 1, 100_000),
-    span(12, 4, 1, 100_000),
-    span(16, 1, 0, 0),
-    span(17, 1, 0, 0),
-    span(18, 1, 0, 0),
-    span(19, 1, 0, 0),
-    span(20, 1, 0, 0),
-    span(21, 1, 0, 0),
-    span(22, 1, 0, 0),
-    span(23, 1, 0, 0),
-];
+/// The fields of an order; byte 7 has the number of either book, and another book than the first section's is apart.
+pub fn order_fields(book: Book) -> &'static [Span] {
+    match book {
+        Book::CrossBorder => &CROSS_BORDER_FIELDS,
+        Book::Domestic => &DOMESTIC_FIELDS,
+    }
+}
+
+const CROSS_BORDER_FIELDS: [Span; 18] = fields(5, 200, 0);
+const DOMESTIC_FIELDS: [Span; 18] = fields(6, 0, 200);
+
+/// By the greatest category asked, percentage and limit for ME140.
+const fn fields(asked: u64, percentage: u64, me140: u64) -> [Span; 18] {
+    [
+        span(0, 1, 0, 200),
+        span(1, 1, 0, 200),
+        span(2, 1, 0, 200),
+        span(3, 1, 0, 200),
+        span(4, 1, 0, 200),
+        span(5, 1, 1, asked),
+        span(6, 1, 0, percentage),
+        span(7, 1, 0, 1),
+        span(8, 4, 1, 100_000),
+        span(12, 4, 1, 100_000),
+        span(16, 1, 0, me140),
+        span(17, 1, 0, 0),
+        span(18, 1, 0, 0),
+        span(19, 1, 0, 0),
+        span(20, 1, 0, 0),
+        span(21, 1, 0, 0),
+        span(22, 1, 0, 0),
+        span(23, 1, 0, 0),
+    ]
+}
+
+/// The fields that keep an order from being a good one of this book, by their places in the table, with their values.
+pub fn out_of_range(book: Book, record: &[u8; ORDER]) -> Vec<(usize, u64)> {
+    let fields = order_fields(book).iter().enumerate();
+    let values = fields.map(|(field, span)| (field, span, span.read(record)));
+    let out = values.filter(|(_, span, value)| !span.has(*value));
+    out.map(|(field, _, value)| (field, value)).collect()
+}
+
+/// The values out of range that are tried: one below, one above, the greatest that the bytes hold.
+pub fn faults(span: &Span) -> Vec<u64> {
+    let below = span.low.checked_sub(1);
+    let above = [span.high + 1, span.greatest()];
+    below.into_iter().chain(above).collect()
+}
 
 impl Span {
     pub fn write(&self, record: &mut [u8], value: u64) {
@@ -108,15 +139,17 @@ pub fn refused_train(random: &mut Random, mut draft: Draft, refusals: &[u8]) -> 
     if has(3) {
         damage_records(random, &mut vehicles);
     }
+    let book = draft.order.book;
     if has(4) {
-        damage_order(random, &mut order);
+        damage_order(random, book, &mut order);
     }
     if has(1) {
         cut_short(random, &mut vehicles);
     }
+    let least = book.sheet();
     let room = match has(5) {
-        true => random.pick(&[0, 1, 24, 31, 31]),
-        false => sheet_room(random),
+        true => random.pick(&[0, 1, 24, 31, least - 1]),
+        false => sheet_room(random, book),
     };
     Call {
         inputs: Inputs::Train { vehicles, order },
@@ -189,11 +222,11 @@ pub fn slip_number(random: &mut Random, record: &mut [u8], slip: fn(&mut Random,
 }
 
 /// Refusal 4: a length of its own, or a field out of range.
-pub fn damage_order(random: &mut Random, order: &mut Vec<u8>) {
+pub fn damage_order(random: &mut Random, book: Book, order: &mut Vec<u8>) {
     if random.percent(25) {
         order.resize(random.pick(&[0, 1, 23, 25, 48]), 0);
     } else {
-        ORDER_FIELDS[random.below(ORDER_FIELDS.len())].write_bad(random, order);
+        random.pick(order_fields(book)).write_bad(random, order);
     }
 }
 
@@ -207,8 +240,10 @@ pub fn cut_short(random: &mut Random, vehicles: &mut Vec<u8>) {
     }
 }
 
-pub fn sheet_room(random: &mut Random) -> usize {
-    random.pick(&[32, 32, 32, 33, 40, 64])
+/// As long as the book's sheet, or longer.
+pub fn sheet_room(random: &mut Random, book: Book) -> usize {
+    let least = book.sheet();
+    random.pick(&[least, least, least, least + 1, 34, 64])
 }
 
 pub fn flip_bytes(random: &mut Random, bytes: &mut [u8]) {

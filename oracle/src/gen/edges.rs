@@ -1,11 +1,13 @@
 //! Changes that bring a train to a boundary: at it, one below or one above.
 
+use super::domestic_edges::DOMESTIC_EDGES;
 use super::draft::{aim, Draft, AXLES, BRAKED_M, BRAKED_V, LENGTH, MASS};
 use super::{lengths, margins};
+use crate::book::Book;
 use crate::random::Random;
 use crate::vehicle::{Vehicle, HAULED_ENGINE, ISOLATED, SET_TO_M, SET_TO_R, SET_TO_V, WAGON};
 
-type Edge = fn(&mut Random, &mut Draft);
+pub type Edge = fn(&mut Random, &mut Draft);
 
 /// Those that decide most stand more than once.
 const EDGES: [Edge; 32] = [
@@ -44,7 +46,11 @@ const EDGES: [Edge; 32] = [
 ];
 
 pub fn apply(random: &mut Random, draft: &mut Draft) {
-    random.pick(&EDGES)(random, draft);
+    let edges: &[Edge] = match draft.order.book {
+        Book::CrossBorder => &EDGES,
+        Book::Domestic => &DOMESTIC_EDGES,
+    };
+    random.pick(edges)(random, draft);
 }
 
 /// Rules 40 to 44 and byte 14.
@@ -94,13 +100,13 @@ fn few_in_v(random: &mut Random, draft: &mut Draft) {
     }
 }
 
-fn all_in_v(draft: &mut Draft) -> impl Iterator<Item = &mut Vehicle> {
+pub fn all_in_v(draft: &mut Draft) -> impl Iterator<Item = &mut Vehicle> {
     let records = draft.working.iter_mut().chain(&mut draft.hauled);
     records.filter(|vehicle| vehicle.setting == SET_TO_V)
 }
 
-/// Rule 32.
-fn v_masses(random: &mut Random, draft: &mut Draft) {
+/// Rule 32, and the domestic 84.
+pub fn v_masses(random: &mut Random, draft: &mut Draft) {
     few_in_v(random, draft);
     aim(all_in_v(draft), BRAKED_V, 2_000 + random.around());
 }
@@ -112,8 +118,8 @@ fn v_axles(random: &mut Random, draft: &mut Draft) {
     aim(all_in_v(draft), BRAKED_V, random.between(0, 2_000));
 }
 
-/// Rule 33: nine to twelve isolated in a row, the braked mass of the others made good.
-fn isolated_run(random: &mut Random, draft: &mut Draft) {
+/// Rule 33, and the domestic 87: nine to twelve isolated in a row, the braked mass of the others made good.
+pub fn isolated_run(random: &mut Random, draft: &mut Draft) {
     let run = random.pick(&[9, 10, 10, 11, 11, 12]);
     let few = if random.percent(80) { 2 } else { 0 };
     if random.percent(70) {
@@ -140,7 +146,7 @@ fn isolated_run(random: &mut Random, draft: &mut Draft) {
     aim(in_m, BRAKED_M, random.between(3_000, 12_000));
 }
 
-/// Rules 19 and 20 unbroken.
+/// Rules 19 and 20 unbroken, and their like.
 fn brake_ends(draft: &mut Draft) {
     let last = draft.hauled.len() - 1;
     for place in [0, last] {
@@ -160,8 +166,8 @@ fn engines(random: &mut Random, draft: &mut Draft) {
     }
 }
 
-/// Rule 35, by either limit.
-fn limits(random: &mut Random, draft: &mut Draft) {
+/// Rule 35, by either limit; the domestic 60 and 63.
+pub fn limits(random: &mut Random, draft: &mut Draft) {
     let mass: i64 = draft.hauled.iter().map(MASS.get).sum();
     let mut limit = || (mass + random.around()).clamp(1, 100_000) as u32;
     let (one, other) = (limit(), limit());
@@ -210,8 +216,8 @@ fn fifth_and_sixth(random: &mut Random, draft: &mut Draft) {
     }
 }
 
-/// Rules 16 to 18, one record each, and D loads.
-fn one_mark(random: &mut Random, draft: &mut Draft) {
+/// Rules 16 to 18, one record each, and D loads; the domestic 64 and 65.
+pub fn one_mark(random: &mut Random, draft: &mut Draft) {
     let count = draft.working.len() + draft.hauled.len();
     let mut records = draft.working.iter_mut().chain(&mut draft.hauled);
     let Some(vehicle) = records.nth(random.below(count)) else {
@@ -247,8 +253,8 @@ fn own_speed(random: &mut Random, draft: &mut Draft) {
     }
 }
 
-/// Rules 19 and 20, or the same one vehicle further in.
-fn end_isolated(random: &mut Random, draft: &mut Draft) {
+/// Rules 19 and 20, or the same one vehicle further in; the domestic 75, 76, 85 and 86.
+pub fn end_isolated(random: &mut Random, draft: &mut Draft) {
     let last = draft.hauled.len() - 1;
     let place = random.pick(&[0, 1, last, last.saturating_sub(1)]);
     draft.hauled[place.min(last)].setting = ISOLATED;
@@ -257,8 +263,8 @@ fn end_isolated(random: &mut Random, draft: &mut Draft) {
     }
 }
 
-/// Rule 15, also with several wagons between.
-fn engine_behind_wagon(random: &mut Random, draft: &mut Draft) {
+/// Rule 15, also with several wagons between; the domestic 70 and 81.
+pub fn engine_behind_wagon(random: &mut Random, draft: &mut Draft) {
     let place = random.below(draft.hauled.len());
     draft.hauled[place].kind = HAULED_ENGINE;
 }

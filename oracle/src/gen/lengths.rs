@@ -3,6 +3,7 @@
 use super::draft::{aim, Draft, LENGTH, MASS};
 use super::margins::{aim_margin, set_to};
 use super::trains::{plain_train, Size};
+use crate::book::Book;
 use crate::random::Random;
 use crate::vehicle::{Vehicle, HAULED_ENGINE, ISOLATED, SET_TO_M, SET_TO_R, SET_TO_V, WAGON};
 
@@ -108,7 +109,8 @@ fn pass_700_m(random: &mut Random, draft: &mut Draft, rule: u8) {
     }
 }
 
-fn fill_up(draft: &mut Draft, count: usize) {
+/// Wagons like the last vehicle, so that there are so many hauled.
+pub fn fill_up(draft: &mut Draft, count: usize) {
     let filler = Vehicle {
         kind: WAGON,
         matrossow: 0,
@@ -158,7 +160,7 @@ pub fn swept_lengths(seed: u64) -> Vec<Draft> {
         for above in [-1, 0, 1] {
             for beside in BESIDE {
                 let mut random = Random::for_case(seed, drafts.len() as u64);
-                let mut draft = plain_train(&mut random, Size::Few);
+                let mut draft = plain_train(&mut random, Book::CrossBorder, Size::Few);
                 stand(&mut random, &mut draft, i64::from(bound) + above, beside);
                 decide(&mut random, &mut draft);
                 drafts.push(draft);
@@ -167,7 +169,7 @@ pub fn swept_lengths(seed: u64) -> Vec<Draft> {
     }
     for rule in PAST_700_M {
         let mut random = Random::for_case(seed, drafts.len() as u64);
-        let mut draft = plain_train(&mut random, Size::Few);
+        let mut draft = plain_train(&mut random, Book::CrossBorder, Size::Few);
         pass_700_m(&mut random, &mut draft, rule);
         decide(&mut random, &mut draft);
         drafts.push(draft);

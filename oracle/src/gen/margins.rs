@@ -1,18 +1,20 @@
-//! Rule 47 and bytes 10 to 12: braked masses that give a chosen margin exactly.
+//! Rules 47, 77 and 88 and the sheet's margin: braked masses that give a chosen margin exactly.
 
-use super::draft::{aim, Draft, BRAKED_M, BRAKED_V, LENGTH, MASS};
+use super::draft::{aim, Draft, Field, BRAKED_M, BRAKED_V, LENGTH, MASS};
+use crate::book::Book;
 use crate::random::Random;
-use crate::vehicle::{Vehicle, SET_TO_M, SET_TO_V};
-
-/// p of categories 1 to 5, before byte 6.
-const PERCENTAGES: [i64; 5] = [77, 60, 60, 57, 50];
+use crate::vehicle::{Vehicle, SET_TO_M, SET_TO_V, WAGON};
 
 /// Brings the margin of the asked category, or of a later one, where it is wanted; some trains cannot have it.
 pub fn aim_margin(random: &mut Random, draft: &mut Draft) {
     let asked = usize::from(draft.order.asked);
-    let later = asked + random.below(6 - asked);
+    let last = usize::from(draft.order.book.last());
+    let later = asked + random.below(last + 1 - asked);
     let category = random.pick(&[asked, asked, later]);
-    bring(random, draft, category, wanted);
+    match draft.order.book {
+        Book::CrossBorder => bring(random, draft, category, wanted),
+        Book::Domestic => bring(random, draft, category, wanted_in_fours),
+    }
 }
 
 /// An odd margin needs three quarters of an odd M mass and an odd k, so a heavy train of categories 1 to 3.
@@ -50,7 +52,9 @@ fn bring(random: &mut Random, draft: &mut Draft, category: usize, wanted: fn(&mu
                 let mass: i64 = draft.hauled.iter().map(MASS.get).sum();
                 aim(&mut draft.hauled, MASS, mass + more_mass);
                 aim(set_to(&mut draft.hauled, SET_TO_V), BRAKED_V, v);
-                aim(set_to(&mut draft.hauled, SET_TO_M), BRAKED_M, m);
+                let in_m = draft.hauled.iter_mut();
+                let in_m = in_m.filter(|one| puzzle.counts_m(one));
+                aim(in_m, puzzle.field_m, m);
                 return;
             }
         }
@@ -66,6 +70,15 @@ fn wanted(random: &mut Random) -> i64 {
     }
 }
 
+/// Without k a margin is a multiple of four.
+fn wanted_in_fours(random: &mut Random) -> i64 {
+    let off = random.pick(&[-400, -200, -20, -4, -4, -4, 0, 0, 0, 0, 4, 4, 20, 200]);
+    match random.below(3) {
+        0 => 4_000 * random.between(-5, 5) + off,
+        _ => off,
+    }
+}
+
 pub fn set_to(vehicles: &mut [Vehicle], setting: u8) -> impl Iterator<Item = &mut Vehicle> {
     vehicles
         .iter_mut()
@@ -78,10 +91,13 @@ struct Puzzle {
     train_mass: i64,
     /// 100 - k.
     kept: i64,
-    /// How often Q counts an M mass; it counts a V mass four times.
+    /// What Q counts of a hauled vehicle set to M, and how often; it counts the V mass of one set to V four times.
+    field_m: Field,
     weight_m: i64,
-    /// What the working engines give to Q.
-    engines: i64,
+    /// Of those set to M wagons alone, the engines being counted otherwise.
+    wagons_alone: bool,
+    /// What all the others give to Q.
+    others: i64,
     m_now: i64,
     most_v: i64,
     most_m: i64,
@@ -89,26 +105,40 @@ struct Puzzle {
 
 impl Puzzle {
     fn new(draft: &Draft, category: usize) -> Puzzle {
-        let facts = draft.facts();
-        let (weight_m, kept) = match category {
-            1..=3 => (3, 100 - facts.k),
-            _ => (4, 100),
+        let (facts, order) = (draft.facts(), &draft.order);
+        let category = &order.book.categories()[category - 1];
+        let (field_m, weight_m, kept) = match (order.book, category.is_1_to_3()) {
+            (Book::CrossBorder, true) => (BRAKED_M, 3, 100 - facts.k),
+            (Book::Domestic, true) => (BRAKED_V, 3, 100),
+            (_, false) => (BRAKED_M, 4, 100),
         };
-        let sum = |vehicles: &[Vehicle], setting: u8, value: fn(&Vehicle) -> i64| -> i64 {
-            let set = vehicles.iter().filter(|one| one.setting == setting);
-            set.map(value).sum()
-        };
-        Puzzle {
-            p: PERCENTAGES[category - 1].max(i64::from(draft.order.percentage)),
+        let mut puzzle = Puzzle {
+            p: i64::from(category.percentage(&facts, order)),
             train_mass: i64::from(facts.train_mass),
             kept,
+            field_m,
             weight_m,
-            engines: 4 * sum(&draft.working, SET_TO_V, BRAKED_V.get)
-                + weight_m * sum(&draft.working, SET_TO_M, BRAKED_M.get),
-            m_now: sum(&draft.hauled, SET_TO_M, BRAKED_M.get),
-            most_v: sum(&draft.hauled, SET_TO_V, |_| BRAKED_V.high),
-            most_m: sum(&draft.hauled, SET_TO_M, |_| BRAKED_M.high),
+            wagons_alone: order.book == Book::Domestic && category.is_1_to_3(),
+            others: (category.braked)(&facts) / kept,
+            m_now: 0,
+            most_v: 0,
+            most_m: 0,
+        };
+        for vehicle in &draft.hauled {
+            if vehicle.setting == SET_TO_V {
+                puzzle.most_v += BRAKED_V.high;
+                puzzle.others -= 4 * (BRAKED_V.get)(vehicle);
+            } else if puzzle.counts_m(vehicle) {
+                puzzle.most_m += field_m.high;
+                puzzle.m_now += (field_m.get)(vehicle);
+            }
         }
+        puzzle.others -= weight_m * puzzle.m_now;
+        puzzle
+    }
+
+    fn counts_m(&self, vehicle: &Vehicle) -> bool {
+        vehicle.setting == SET_TO_M && (vehicle.kind == WAGON || !self.wagons_alone)
     }
 
     /// The sums of hauled V and M masses that give the margin exactly.
@@ -117,7 +147,7 @@ impl Puzzle {
         if needed < 0 || needed % self.kept != 0 {
             return None;
         }
-        let rest = needed / self.kept - self.engines;
+        let rest = needed / self.kept - self.others;
         // Neighbours of the M mass leave every remainder that V, counted four times, may want.
         (-3..=3).find_map(|step| {
             let m = match self.most_v {

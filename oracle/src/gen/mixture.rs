@@ -5,21 +5,24 @@ use super::accounts::{
     probed_account,
 };
 use super::damage::{
-    cut_short, damage_order, damage_records, flip_bytes, random_bytes, refused_train, sheet_room,
-    slip_number, ORDER_FIELDS, REFUSALS, VEHICLE_FIELDS,
+    cut_short, damage_order, damage_records, faults, flip_bytes, order_fields, random_bytes,
+    refused_train, sheet_room, slip_number, REFUSALS, VEHICLE_FIELDS,
 };
+use super::domestic::ease;
+use super::domestic_accounts::plausible_domestic;
 use super::draft::{bytes, Draft};
 use super::numbers::slipped;
 use super::trains::{any_engine, any_order, plain_train, train, Size};
 use crate::account::Account;
+use crate::book::{Book, BOOKS};
 use crate::call::{Call, Function, Inputs};
 use crate::precedence::refusals;
 use crate::random::Random;
 use crate::vehicle::{Vehicle, HAULED_ENGINE, VEHICLE, WAGON, WORKING_ENGINE};
 
 /// A call with a whole train.
-pub fn train_call(random: &mut Random, size: Size) -> Call {
-    let draft = train(random, size);
+pub fn train_call(random: &mut Random, book: Book, size: Size) -> Call {
+    let draft = train(random, book, size);
     match random.below(100) {
         0..70 => refused_train(random, draft, &[]),
         70..78 => {
@@ -45,9 +48,12 @@ pub fn train_call(random: &mut Random, size: Size) -> Call {
 fn spoilt_train(random: &mut Random, draft: &Draft) -> Call {
     let mut vehicles = draft.vehicles();
     let mut order = draft.order.write().to_vec();
+    let book = draft.order.book;
     match random.below(12) {
         0..4 => one_field(random, &mut vehicles),
-        4..6 => ORDER_FIELDS[random.below(ORDER_FIELDS.len())].write_edge(random, &mut order),
+        4..6 => random
+            .pick(order_fields(book))
+            .write_edge(random, &mut order),
         6 => flip_bytes(random, &mut vehicles),
         7 => flip_bytes(random, &mut order),
         8 => order.resize(random.pick(&[0, 23, 24, 25]), 0),
@@ -60,7 +66,7 @@ fn spoilt_train(random: &mut Random, draft: &Draft) -> Call {
     }
     Call {
         inputs: Inputs::Train { vehicles, order },
-        room: sheet_room(random),
+        room: sheet_room(random, book),
         fill: random.draw() as u8,
     }
 }
@@ -118,8 +124,8 @@ const ACCOUNT_ROOMS: [usize; 16] = [
 ];
 
 /// A call with a portion offered as hauled.
-pub fn portion_call(random: &mut Random) -> Call {
-    let mut draft = train(random, Size::Any);
+pub fn portion_call(random: &mut Random, book: Book) -> Call {
+    let mut draft = train(random, book, Size::Any);
     let wanted = some_refusals(random, refusals(Function::AccountOf));
     let has = |number: u8| wanted.contains(&number);
     let first = draft.hauled[0];
@@ -179,23 +185,54 @@ pub fn join_call(random: &mut Random) -> Call {
 }
 
 /// A call with engines lent apart and an account.
-pub fn engines_call(random: &mut Random) -> Call {
+pub fn engines_call(random: &mut Random, book: Book) -> Call {
     let wanted = some_refusals(random, refusals(Function::SheetOfAccount));
     let has = |number: u8| wanted.contains(&number);
-    let draft = engines_and_hauled(random);
+    let mut draft = engines_and_hauled(random, book);
+    if book == Book::Domestic && random.percent(50) {
+        ease(&mut draft);
+    }
     let hauled = account_beside(random, &draft, &wanted);
     let engines = engines_apart(random, draft.working, &wanted);
     let mut order = draft.order.write().to_vec();
     if has(4) {
-        damage_order(random, &mut order);
+        damage_order(random, book, &mut order);
     }
     let inputs = Inputs::Engines {
         engines,
         hauled,
         order,
     };
-    let rooms: &[usize] = if has(5) { &[0, 31] } else { &[32, 32, 33, 40] };
-    call(random, inputs, rooms)
+    let least = book.sheet();
+    let rooms = match has(5) {
+        true => [0, 31, least - 1, least - 1],
+        false => [least, least + 1, 34, 40],
+    };
+    call(random, inputs, &rooms)
+}
+
+/// Good calls but for one field of the order, in turn for every fault of either book.
+pub fn order_call(random: &mut Random, turn: u64, of_account: bool) -> Call {
+    let mut faulty = vec![];
+    for book in BOOKS {
+        for span in order_fields(book) {
+            faulty.extend(faults(span).into_iter().map(|value| (book, span, value)));
+        }
+    }
+    let (book, span, value) = faulty[turn as usize % faulty.len()];
+    let draft = plain_train(random, book, Size::Few);
+    let mut order = draft.order.write().to_vec();
+    span.write(&mut order, value);
+    let vehicles = draft.vehicles();
+    let inputs = match of_account {
+        false => Inputs::Train { vehicles, order },
+        true => Inputs::Engines {
+            engines: bytes(&draft.working),
+            hauled: account_of(&draft.hauled).to_vec(),
+            order,
+        },
+    };
+    call(random, inputs, &[33, 40])
 }
 
 /// The engines lent apart, with refusals 1, 2, 3, 11 and 13 where they are wanted.
@@ -216,6 +253,9 @@ pub fn account_beside(random: &mut Random, draft: &Draft, wanted: &[u8]) -> Vec<
         _ if wanted.contains(&7) => bad_account(random),
         _ if wanted.contains(&14) => empty_account(random),
         0..7 => account_of(&draft.hauled).to_vec(),
+        7..14 if draft.order.book == Book::Domestic => {
+            plausible_domestic(random, draft).write().to_vec()
+        }
         7..12 => plausible(random).write().to_vec(),
         12..14 => longer_in_v(random, &draft.working, &draft.order)
             .write()
@@ -227,10 +267,10 @@ pub fn account_beside(random: &mut Random, draft: &Draft, wanted: &[u8]) -> Vec<
 }
 
 /// A train at a boundary, or engines and an order that have nothing to do with what is hauled.
-pub fn engines_and_hauled(random: &mut Random) -> Draft {
-    let mut draft = train(random, Size::Any);
+pub fn engines_and_hauled(random: &mut Random, book: Book) -> Draft {
+    let mut draft = train(random, book, Size::Any);
     if random.percent(40) {
-        draft.order = any_order(random);
+        draft.order = any_order(random, book);
         for engine in &mut draft.working {
             *engine = any_engine(random);
         }
@@ -272,7 +312,7 @@ fn empty_account(random: &mut Random) -> Vec<u8> {
 
 /// A call for the vehicle that holds the speed.
 pub fn speed_call(random: &mut Random) -> Call {
-    let draft = train(random, Size::Any);
+    let draft = train(random, Book::CrossBorder, Size::Any);
     let mut records: Vec<Vehicle> = [&draft.working[..], &draft.hauled[..]].concat();
     // Few speeds, so that ties are common.
     if random.percent(50) {
@@ -309,10 +349,10 @@ pub struct Cut {
     pub portions: Vec<Vec<u8>>,
 }
 
-pub fn cut(random: &mut Random) -> Cut {
+pub fn cut(random: &mut Random, book: Book) -> Cut {
     let mut draft = match random.below(4) {
-        0 => plain_train(random, Size::Any),
-        _ => train(random, Size::Any),
+        0 => plain_train(random, book, Size::Any),
+        _ => train(random, book, Size::Any),
     };
     if random.percent(30) {
         long_runs(random, &mut draft);
@@ -345,7 +385,7 @@ fn long_runs(random: &mut Random, draft: &mut Draft) {
 
 /// A plain train of one engine and so many hauled, every record and the order good.
 pub fn good_train(random: &mut Random, hauled: usize) -> Draft {
-    let mut draft = plain_train(random, Size::Exactly(hauled));
+    let mut draft = plain_train(random, Book::CrossBorder, Size::Exactly(hauled));
     draft.working.truncate(1);
     draft
 }

@@ -3,6 +3,10 @@
 pub mod accounts;
 pub mod cases;
 pub mod damage;
+pub mod domestic;
+pub mod domestic_accounts;
+pub mod domestic_cases;
+pub mod domestic_edges;
 pub mod draft;
 pub mod edges;
 pub mod lengths;

@@ -4,6 +4,7 @@ use super::accounts::account_of;
 use super::draft::{bytes, Draft};
 use super::routes::written;
 use super::trains::{plain_train, Size};
+use crate::book::Book;
 use crate::call::{Call, Function, Inputs};
 use crate::random::Random;
 use crate::vehicle::{digit_sum, digits, is_number, DIGITS};
@@ -146,9 +147,9 @@ pub fn case_number(random: &mut Random, index: u64) -> u64 {
 }
 
 /// A good train of two engines and three to eight hauled.
-pub fn two_engines(random: &mut Random) -> Draft {
+pub fn two_engines(random: &mut Random, book: Book) -> Draft {
     let hauled = random.between(3, 8) as usize;
-    let mut draft = plain_train(random, Size::Exactly(hauled));
+    let mut draft = plain_train(random, book, Size::Exactly(hauled));
     draft.working.resize(2, draft.working[0]);
     draft
 }

@@ -1,8 +1,9 @@
 //! Good trains of several styles, most of them with a category to grant.
 
 use super::draft::{aim, Draft, MASS};
-use super::edges;
 use super::numbers::number;
+use super::{domestic, edges};
+use crate::book::Book;
 use crate::order::Order;
 use crate::random::Random;
 use crate::vehicle::{
@@ -34,15 +35,23 @@ enum Style {
 }
 
 /// A train whose records and order are good, often standing at a boundary.
-pub fn train(random: &mut Random, size: Size) -> Draft {
-    let mut draft = plain_train(random, size);
+pub fn train(random: &mut Random, book: Book, size: Size) -> Draft {
+    let mut draft = plain_train(random, book, size);
     for _ in 0..random.pick(&[0, 0, 1, 1, 1, 1, 2, 2]) {
         edges::apply(random, &mut draft);
     }
     draft
 }
 
-pub fn plain_train(random: &mut Random, size: Size) -> Draft {
+pub fn plain_train(random: &mut Random, book: Book, size: Size) -> Draft {
+    let mut draft = cross_border_train(random, size);
+    if book == Book::Domestic {
+        domestic::make_domestic(random, &mut draft);
+    }
+    draft
+}
+
+fn cross_border_train(random: &mut Random, size: Size) -> Draft {
     let count = hauled_count(random, size);
     let style = style(random, count);
     let order = order(random, style);
@@ -223,17 +232,23 @@ fn order(random: &mut Random, style: Style) -> Order {
         1 => random.between(0, 90) as u8,
         _ => 0,
     };
-    let limit = |random: &mut Random| match random.below(10) {
+    Order {
+        book: Book::CrossBorder,
+        limits: limits(random),
+        me140: 0,
+        asked,
+        percentage,
+        coupling: mass_limit(random),
+        admissible: mass_limit(random),
+    }
+}
+
+/// Most often one that no train reaches.
+pub fn mass_limit(random: &mut Random) -> u32 {
+    match random.below(10) {
         0..8 => 100_000,
         8 => random.between(1, 100_000) as u32,
         _ => random.between(5_000, 20_000) as u32,
-    };
-    Order {
-        limits: limits(random),
-        asked,
-        percentage,
-        coupling: limit(random),
-        admissible: limit(random),
     }
 }
 
@@ -247,7 +262,10 @@ fn limits(random: &mut Random) -> [u8; 5] {
 }
 
 /// An order alone, for the functions that are not lent a train.
-pub fn any_order(random: &mut Random) -> Order {
+pub fn any_order(random: &mut Random, book: Book) -> Order {
+    if book == Book::Domestic {
+        return domestic::order(random);
+    }
     let style = random.pick(&[Style::Quick, Style::Slow]);
     order(random, style)
 }

@@ -2,12 +2,15 @@
 //! ones, most of them short.
 
 use super::cases::{case_a, cases, worked_route};
+use super::damage::{faults, order_fields};
+use super::domestic_cases::{b, domestic_cases, swept_classes};
 use super::draft::Draft;
 use super::lengths::swept_lengths;
 use super::mixture::train_call;
 use super::numbers::{closed, seated, two_engines};
 use super::routes::{route_call, swept_journey, written};
 use super::trains::Size;
+use crate::book::{Book, BOOK};
 use crate::call::{Call, Function, Inputs};
 use crate::numbers::{attempts, Met, PARTS};
 use crate::order::ORDER;
@@ -22,9 +25,47 @@ pub fn inputs(seed: u64, count: usize) -> Vec<Vec<u8>> {
     inputs.extend(odd_lengths());
     inputs.extend(numbered(seed).iter().map(Draft::input));
     inputs.extend(swept_lengths(seed).iter().map(Draft::input));
+    filled_up(inputs, seed, Book::CrossBorder, count)
+}
+
+/// The same of domestic orders: the worked cases, orders of either book with one field out of range, each length at which p changes
+/// with each category asked, then random ones.
+pub fn domestic_inputs(seed: u64, count: usize) -> Vec<Vec<u8>> {
+    let cases = domestic_cases();
+    let mut inputs: Vec<Vec<u8>> = cases.iter().map(|case| case.draft.input()).collect();
+    for draft in [case_a(), b()] {
+        inputs.extend(bad_orders(&draft));
+    }
+    inputs.extend(swept_classes().iter().map(Draft::input));
+    filled_up(inputs, seed ^ DOMESTIC, Book::Domestic, count)
+}
+
+/// Sets the seed of domestic inputs apart.
+const DOMESTIC: u64 = 0x0006_0006_0006_0006;
+
+/// With random inputs, so that there are so many.
+fn filled_up(mut inputs: Vec<Vec<u8>>, seed: u64, book: Book, count: usize) -> Vec<Vec<u8>> {
     let random = inputs.len() as u64..count as u64;
-    inputs.extend(random.map(|index| random_input(&mut Random::for_case(seed, index))));
+    let random = random.map(|index| random_input(&mut Random::for_case(seed, index), book));
+    inputs.extend(random);
     inputs.truncate(count);
+    inputs
+}
+
+/// A train's input with each field of its order out of range, and with the other book's byte 7.
+fn bad_orders(draft: &Draft) -> Vec<Vec<u8>> {
+    let book = draft.order.book;
+    let mut inputs = vec![];
+    for span in order_fields(book) {
+        for value in faults(span) {
+            let mut input = draft.input();
+            span.write(&mut input, value);
+            inputs.push(input);
+        }
+    }
+    let mut other = draft.input();
+    other[BOOK] = book.other().byte();
+    inputs.push(other);
     inputs
 }
 
@@ -36,7 +77,7 @@ const STEMS: [u64; 5] = [21_812_471_217, 90_180_909_109, 37_809, 1, 9_099_999_99
 fn numbered(seed: u64) -> Vec<Draft> {
     let mut drafts = vec![];
     for (part, stem) in PARTS.into_iter().zip(STEMS) {
-        let mut draft = two_engines(&mut Random::for_case(seed, stem));
+        let mut draft = two_engines(&mut Random::for_case(seed, stem), Book::CrossBorder);
         let attempts = attempts(closed(stem)).into_iter();
         for attempt in attempts.filter(|attempt| is_in_file(attempt.met)) {
             part.vehicle(&mut draft).number = attempt.number;
@@ -68,13 +109,13 @@ fn odd_lengths() -> Vec<Vec<u8>> {
     lengths.map(|length| bytes[..length].to_vec()).to_vec()
 }
 
-fn random_input(random: &mut Random) -> Vec<u8> {
+fn random_input(random: &mut Random, book: Book) -> Vec<u8> {
     let size = match random.below(100) {
         0..4 => Size::Any,
         4..6 => Size::Exactly(random.between(51, 198) as usize),
         _ => Size::Few,
     };
-    let call = train_call(random, size);
+    let call = train_call(random, book, size);
     let Inputs::Train { vehicles, order } = call.inputs else {
         return vec![];
     };
@@ -92,10 +133,7 @@ fn random_input(random: &mut Random) -> Vec<u8> {
 pub fn route_inputs(seed: u64, count: usize) -> Vec<Vec<u8>> {
     let mut inputs = vec![worked_route()];
     inputs.extend(odd_routes());
-    for (index, met) in (0..).zip(swept_few()) {
-        let mut random = Random::for_case(!seed, index);
-        inputs.extend(route_input(swept_journey(&mut random, met).of_train(0)));
-    }
+    inputs.extend(swept_routes(!seed, Book::CrossBorder));
     for draft in numbered(!seed) {
         inputs.extend(route_input(seated(Function::RouteOfTrain, &draft)));
     }
@@ -103,10 +141,33 @@ pub fn route_inputs(seed: u64, count: usize) -> Vec<Vec<u8>> {
         let orders = written(&vec![draft.order; 1 + more]);
         inputs.push([&[1 + *more as u8], &orders[..], &draft.vehicles()].concat());
     }
+    filled_up_routes(inputs, !seed, Book::CrossBorder, count)
+}
+
+/// Inputs of ROUTE whose sections are domestic, or of both books: what is swept, then random ones up to the count.
+pub fn domestic_route_inputs(seed: u64, count: usize) -> Vec<Vec<u8>> {
+    let seed = !seed ^ DOMESTIC;
+    let mut inputs = swept_routes(seed, Book::Domestic);
+    let mut too_many = b();
+    too_many.hauled.resize(200, too_many.hauled[9]);
+    inputs.push([&[1], &too_many.input()[..]].concat());
+    filled_up_routes(inputs, seed, Book::Domestic, count)
+}
+
+fn swept_routes(seed: u64, book: Book) -> Vec<Vec<u8>> {
+    let mut inputs = vec![];
+    for (index, met) in (0..).zip(swept_few(book)) {
+        let journey = swept_journey(&mut Random::for_case(seed, index), book, met);
+        inputs.extend(route_input(journey.of_train(0)));
+    }
+    inputs
+}
+
+fn filled_up_routes(mut inputs: Vec<Vec<u8>>, seed: u64, book: Book, count: usize) -> Vec<Vec<u8>> {
     let mut index = 1_000_000;
     while inputs.len() < count {
         index += 1;
-        let call = route_call(&mut Random::for_case(!seed, index), Size::Few);
+        let call = route_call(&mut Random::for_case(seed, index), book, Size::Few);
         inputs.extend(route_input(call).filter(|input| input.len() <= MOST_ROUTE));
     }
     inputs.truncate(count);

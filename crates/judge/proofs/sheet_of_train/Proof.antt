@@ -1,17 +1,18 @@
 -- `judge::sheet_of_train` meets its contract: what is judged is shown. Assumes nothing.
-use mathlib.Core.Path.{_∙_}
+use mathlib.Core.Path.{_∙_, sym, ap, subst}
 use denote.Ref.{now}
-use lib.ListN.{length}
-use Rattle.judge.proofs.Sheets.{order-tests, train-room, train-answer, train-sheet}
+use Rattle.order.specs.declared.Order.{Order}
+use Rattle.judge.specs.Judging.{sheetIn, Roomy}
+use Rattle.judge.proofs.Sheets.{train-room, train-answer, train-sheet}
 use borrow.Author.Needs.{needs}
 use Rattle.judge.proofs.sheet_of_train.Statement.{statement}
 use Rattle.judge.proofs.sheet_of_train.Tie as tie
 
-is-good-order-requires : tie.Need-is-good-order-requires
-is-good-order-requires c κs = search needs
+read-order-requires : tie.Need-read-order-requires
+read-order-requires c κs = search needs
 
-order-refusal-requires : tie.Need-order-refusal-requires
-order-refusal-requires c κs = search needs
+lent-refusal-requires : tie.Need-lent-refusal-requires
+lent-refusal-requires c κs = search needs
 
 train-facts-requires : tie.Need-train-facts-requires
 train-facts-requires c κs = search needs
@@ -19,7 +20,8 @@ train-facts-requires c κs = search needs
 put-sheet-requires : tie.Need-put-sheet-requires
 put-sheet-requires c κs =
     let a = c .before .before .before .before .before .before .before .args in
-    train-room (now (a .vehicles)) (now (a .order)) (now (a .sheet)) _ (c .before .before .order-refusal .ensures ∙ order-tests _ (now (a .order)) (length (now (a .sheet))) (c .before .before .before .is-good-order .ensures)) _ (c .before .train-facts .ensures)
+    subst (λ (o : Order). Roomy (c .before .train-facts .result) o (now (a .sheet))) (sym (c .before .before .before .read-order .ensures))
+    (train-room (now (a .vehicles)) (now (a .order)) (now (a .sheet)) _ (c .before .before .lent-refusal .ensures) _ (c .before .train-facts .ensures))
 
 same-length : tie.Need-same-length
 same-length c = search needs
@@ -27,16 +29,21 @@ same-length c = search needs
 returns : tie.Need-returns
 returns c =
     let a = c .before .before .before .before .before .before .before .before .before .before .args in
-    let lent = (c .before .before .before .before .before .order-refusal .ensures ∙ order-tests _ (now (a .order)) (length (now (a .sheet))) (c .before .before .before .before .before .before .is-good-order .ensures)) in
+    let lent = c .before .before .before .before .before .lent-refusal .ensures in
     let judged = c .before .before .before .before .train-facts .ensures in
-    (c .before .before .put-sheet .ensures .0 ∙ train-answer (now (a .vehicles)) (now (a .order)) (now (a .sheet)) _ lent _ judged, c .before .before .put-sheet .ensures .1 ∙ train-sheet (now (a .vehicles)) (now (a .order)) (now (a .sheet)) _ lent _ judged)
+    let put = c .before .before .put-sheet in (
+      put .ensures .0 ∙ train-answer (now (a .vehicles)) (now (a .order)) (now (a .sheet)) _ lent _ judged,
+      put .ensures .1
+          ∙ ap (λ (o : Order). sheetIn (c .before .before .before .before .train-facts .result) o (now (a .sheet))) (c .before .before .before .before .before .before .read-order .ensures)
+          ∙ train-sheet (now (a .vehicles)) (now (a .order)) (now (a .sheet)) _ lent _ judged,
+    )
 
 pub sheet-of-train-spec : {M : Type 1} → statement M
 sheet-of-train-spec =
     tie.close
     (tie.spec
-    is-good-order-requires
-    order-refusal-requires
+    read-order-requires
+    lent-refusal-requires
     train-facts-requires
     put-sheet-requires
     same-length

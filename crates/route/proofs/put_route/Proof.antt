@@ -1,13 +1,12 @@
 -- `route::put_route` meets its contract: what is granted and written is what the facts give. Assumes nothing.
 use mathlib.Core.Path.{sym, ap, _∙_}
 use denote.Ref.{now}
-use Rattle.rules.specs.CrossBorder.{crossBorder}
 use Rattle.rules.specs.declared.grant.Best.{Best}
 use Rattle.sections.specs.Routes.{speedsOn}
 use Rattle.sections.specs.Sections.{sectionsOf, laidOver}
 use Rattle.judge.specs.declared.Answer.the-variants.{Done}
 use Rattle.judge.specs.declared.Judged.{Judged}
-use Rattle.route.specs.Answers.{grantedFor, speedsFor}
+use Rattle.route.specs.Answers.{bookFor, grantedFor, speedsFor}
 use Rattle.route.specs.Giving.{routeIn, speedsIn}
 use borrow.Author.Needs.{needs}
 use Rattle.route.proofs.put_route.Statement.{statement}
@@ -43,7 +42,7 @@ returns-2 c =
     let best = c .before .before .before .before .grant-on .ensures in (
       ap (λ (g : Best). record { answer = Done; granted = g .number }) best ∙ ap (λ (j : Judged). routeIn j (now (a .orders))) judged,
       c .before .before .put-speeds .ensures
-          ∙ ap (λ (g : Best). laidOver (speedsOn crossBorder (g .number) f (sectionsOf (now (a .orders)))) (now (a .speeds))) best
+          ∙ ap (λ (g : Best). laidOver (speedsOn (bookFor (sectionsOf (now (a .orders)))) (g .number) f (sectionsOf (now (a .orders)))) (now (a .speeds))) best
           ∙ ap (λ (j : Judged). speedsIn j (now (a .orders)) (now (a .speeds))) judged,
     )
 

@@ -1,16 +1,22 @@
--- `sheets::common_of` meets its contract: the test is the definition's. Assumes nothing.
-use native.Mathlib.Omega.{arith}
-use mathlib.Core.Path.{sym, ap}
-use mathlib.Core.Bool.{Bool, cond}
-use borrow.Author.Tests.{le-leb, lt-leb}
+-- `sheets::common_of` meets its contract, book by book. Assumes nothing.
+use borrow.Author.Needs.{needs}
 use Rattle.sheets.proofs.common_of.Statement.{statement}
 use Rattle.sheets.proofs.common_of.Tie as tie
 
+enum-told : tie.Need-enum-told
+enum-told c = search needs
+
+up-to-23-requires : tie.Need-up-to-23-requires
+up-to-23-requires c κs = search needs
+
+enum-told-2 : tie.Need-enum-told-2
+enum-told-2 c = search needs
+
 returns : tie.Need-returns
-returns c = ap (λ (b : Bool). cond b (c .before .args .first) 0) (sym (le-leb (c .before .args .first) 23 (omega (arith, c .if1 .taken))))
+returns c = rw (c .before .enum-told .given .1) (c .up-to-23 .ensures)
 
 returns-2 : tie.Need-returns-2
-returns-2 c = ap (λ (b : Bool). cond b (c .before .args .first) 0) (sym (lt-leb (c .before .args .first) 23 (omega (arith, c .if1 .left))))
+returns-2 c = search needs
 
 pub common-of-spec : {M : Type 1} → statement M
-common-of-spec = tie.close (tie.spec returns returns-2)
+common-of-spec = tie.close (tie.spec enum-told up-to-23-requires enum-told-2 returns returns-2)

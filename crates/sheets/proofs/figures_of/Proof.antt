@@ -1,15 +1,16 @@
 -- `sheets::figures_of` meets its contract, field by field. Assumes nothing.
-use mathlib.Core.Path.{ap, _∙_}
+use mathlib.Core.Path.{sym, ap, _∙_}
+use mathlib.Core.List.{List}
 use lib.ListN.{getD}
-use borrow.Author.Needs.{needs}
 use Rattle.categories.specs.Brakes.{marginFor, brakedOf}
-use Rattle.categories.specs.Categories.{percentageOf}
+use Rattle.categories.specs.Categories.{percentageOf, categoryOf}
 use Rattle.categories.specs.declared.category.Category.{Category}
 use Rattle.rules.specs.declared.grant.Decision.{Decision}
-use Rattle.rules.specs.CrossBorder.{crossBorder}
 use Rattle.margin.specs.Margin.{tonnesOf, bytesOf}
-use Rattle.sheets.specs.Sheets.{figuresOf}
-use Rattle.sheets.proofs.Sheets.{upTo23, common-there}
+use Rattle.books.proofs.Demands.{book-rows}
+use Rattle.sheets.specs.Sheets.{commonBy, figuresOf}
+use Rattle.sheets.proofs.Sheets.{common-there}
+use borrow.Author.Needs.{needs}
 use Rattle.sheets.proofs.figures_of.Statement.{statement}
 use Rattle.sheets.proofs.figures_of.Tie as tie
 
@@ -38,14 +39,14 @@ braked-of-requires : tie.Need-braked-of-requires
 braked-of-requires c κs = search needs
 
 returns : tie.Need-returns
-unfolding figuresOf crossBorder
+unfolding figuresOf
 returns c =
     let a = c .before .before .before .before .before .before .before .before .args in
     let f = a .f in
     let o = a .o in
-    let asked = c .before .before .before .before .before .before .before .category-of .ensures in
+    let asked = c .before .before .before .before .before .before .before .category-of .ensures ∙ ap (λ (rows : List Category). categoryOf (o .asked) rows) (sym (book-rows (a .book))) in
     let decided = c .before .before .before .before .before .before .decide .ensures in
-    let common = c .before .before .before .common-of .ensures ∙ ap (λ (d : Decision). upTo23 (getD (d .broken) 0 0)) decided ∙ common-there f o in
+    let common = c .before .before .before .common-of .ensures ∙ ap (λ (d : Decision). commonBy (a .book) (getD (d .broken) 0 0)) decided ∙ common-there (a .book) f o in
     let margin = c .before .before .before .before .margin-bytes .ensures ∙ ap (λ (c : Category). bytesOf (tonnesOf (marginFor c f o))) asked in
     let percentage = c .before .before .percentage-on .ensures ∙ ap (λ (c : Category). percentageOf c f o) asked in
     let braked = c .braked-of .ensures ∙ ap (λ (c : Category). brakedOf c f) asked in

@@ -1,7 +1,7 @@
 -- `travel::account_in` meets its contract, figure by figure. Assumes nothing.
+use native.Mathlib.Omega.{arith}
 use denote.Ref.{now}
-use Rattle.lists.specs.Words.{_is_}
-use Rattle.travel.specs.AccountRecords.{byteAt, accountIn}
+use Rattle.travel.specs.AccountRecords.{accountIn}
 use borrow.Author.Needs.{needs}
 use Rattle.travel.proofs.account_in.Statement.{statement}
 use Rattle.travel.proofs.account_in.Tie as tie
@@ -69,10 +69,20 @@ figure-requires-15 c κs = search needs
 figure-requires-16 : tie.Need-figure-requires-16
 figure-requires-16 c κs = search needs
 
+figure-requires-17 : tie.Need-figure-requires-17
+figure-requires-17 c κs = search needs
+
+figure-requires-18 : tie.Need-figure-requires-18
+figure-requires-18 c κs = omega (arith, c .before .before .before .before .before .before .before .before .before .before .before .before .before .before .before .before .before .before .before .before .before .before .before .pre)
+
+shared-slice-read-t34 : tie.Need-shared-slice-read-t34
+shared-slice-read-t34 c = omega (arith, c .before .before .before .before .before .before .before .before .before .before .before .before .before .before .before .before .before .before .before .before .before .before .before .before .before .pre)
+
 returns : tie.Need-returns
 unfolding accountIn
 returns c =
-    let f14 = c .before .before .before .before .before .before in
+    let f16 = c .before .before .before in
+    let f14 = f16 .before .before .before .before .before .before in
     let f13 = f14 .before in
     let f12 = f13 .before in
     let f11 = f12 .before in
@@ -103,13 +113,16 @@ returns c =
       leading = f12 .figure12 .ensures i;
       trailing = f13 .figure13 .ensures i;
       longest = f14 .figure14 .ensures i;
-      behind = byteAt 56 bs is 1;
-      rule16 = byteAt 57 bs is 1;
-      rule17 = byteAt 58 bs is 1;
-      rule18 = byteAt 59 bs is 1;
-      slowest = c .before .figure15 .ensures i;
+      behind = accountIn bs .behind;
+      rule16 = accountIn bs .rule16;
+      rule17 = accountIn bs .rule17;
+      rule18 = accountIn bs .rule18;
+      slowest = f16 .before .figure15 .ensures i;
       first = f1 .before .first-in .ensures i;
-      vlength = c .figure16 .ensures i;
+      vlength = f16 .figure16 .ensures i;
+      enginemmass = c .before .before .figure17 .ensures i;
+      wagonvmass = c .before .figure18 .ensures i;
+      enginenotm = accountIn bs .enginenotm;
     }
 
 pub account-in-spec : {M : Type 1} → statement M
@@ -137,4 +150,7 @@ account-in-spec =
     shared-slice-read-t27
     figure-requires-15
     figure-requires-16
+    figure-requires-17
+    figure-requires-18
+    shared-slice-read-t34
     returns)

@@ -20,12 +20,15 @@ shared-slice-read-result-3 c = search needs
 shared-slice-read-result-4 : tie.Need-shared-slice-read-result-4
 shared-slice-read-result-4 c = search needs
 
+shared-slice-read-result-5 : tie.Need-shared-slice-read-result-5
+shared-slice-read-result-5 c = search needs
+
 is-rest-unused-requires : tie.Need-is-rest-unused-requires
 is-rest-unused-requires c κs = search needs
 
 returns-2 : tie.Need-returns-2
 returns-2 c =
-    let s = c .before .before .before .before .before in
+    let s = c .before .before .before .before .before .before in
     plain-long (now (s .before .before .args .bytes)) (s .if1 .left) (c .is-rest-unused .ensures)
 
 pub is-plain-spec : {M : Type 1} → statement M
@@ -37,5 +40,6 @@ is-plain-spec =
     shared-slice-read-result-2
     shared-slice-read-result-3
     shared-slice-read-result-4
+    shared-slice-read-result-5
     is-rest-unused-requires
     returns-2)

@@ -122,9 +122,24 @@ array-write-bytes-9 c = search needs
 put-figure-requires-16 : tie.Need-put-figure-requires-16
 put-figure-requires-16 c κs = search needs
 
+put-figure-requires-17 : tie.Need-put-figure-requires-17
+put-figure-requires-17 c κs = search needs
+
+put-figure-requires-18 : tie.Need-put-figure-requires-18
+put-figure-requires-18 c κs = search needs
+
+mark-of-requires-5 : tie.Need-mark-of-requires-5
+mark-of-requires-5 c κs = search needs
+
+array-write-bytes-10 : tie.Need-array-write-bytes-10
+array-write-bytes-10 c = search needs
+
 returns : tie.Need-returns
 returns c =
-    let s5 = c .before .before in
+    let f18 = c .before in
+    let f17 = f18 .before .before in
+    let f16 = f17 .before .before in
+    let s5 = f16 .before .before in
     let s1 = s5 .before .before .before .before in
     let m4 = s1 .before .before .before in
     let f14 = m4 .before .before .before .before in
@@ -158,7 +173,10 @@ returns c =
     let m = stored 59 (stored 58 (stored 57 (stored 56 e14 (m4 .before .before .before .mark-of .ensures)) (m4 .before .before .mark-of2 .ensures)) (m4 .before .mark-of3 .ensures)) (m4 .mark-of4 .ensures) in
     let e15 = s1 .before .put-figure15 .ensures ∙ placed 60 _ m in
     let f = stored 68 (stored 67 (stored 66 (stored 65 (stored 64 e15 (s1 .setting-byte .ensures)) (s5 .before .before .before .setting-byte2 .ensures)) (s5 .before .before .setting-byte3 .ensures)) (s5 .before .setting-byte4 .ensures)) (s5 .setting-byte5 .ensures) in
-    c .put-figure16 .ensures ∙ placed 69 _ f
+    let e16 = f16 .put-figure16 .ensures ∙ placed 69 _ f in
+    let e17 = f17 .put-figure17 .ensures ∙ placed 73 _ e16 in
+    let e18 = f18 .put-figure18 .ensures ∙ placed 77 _ e17 in
+    stored 81 e18 (c .mark-of5 .ensures)
 
 pub record-of-spec : {M : Type 1} → statement M
 record-of-spec =
@@ -203,4 +221,8 @@ record-of-spec =
     setting-byte-requires-5
     array-write-bytes-9
     put-figure-requires-16
+    put-figure-requires-17
+    put-figure-requires-18
+    mark-of-requires-5
+    array-write-bytes-10
     returns)

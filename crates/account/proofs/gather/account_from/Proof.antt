@@ -91,6 +91,9 @@ returns c =
       slowest = g .running i .slowest;
       first = g .five i;
       vlength = getD (g .table i) 18 0;
+      enginemmass = g .running i .enginemmass;
+      wagonvmass = g .running i .wagonvmass;
+      enginenotm = g .running i .enginenotm;
     }
 
 pub account-from-spec : {M : Type 1} → statement M

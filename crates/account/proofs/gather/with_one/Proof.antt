@@ -1,8 +1,7 @@
 -- `account::gather::with_one` meets its contract, figure by figure. Assumes nothing.
-use Prim.Native.Nat.{max}
+use Prim.Native.Nat.{_+_, max}
 use mathlib.Core.Path.{ap, _∙_}
-use mathlib.Core.Bool.{not, _&&_, _||_}
-use Rattle.record.specs.Vehicles.{isWagon, isIsolated, hasMatrossow}
+use native.Mathlib.Omega.{arith}
 use Rattle.account.specs.Gathering.{withOne}
 use borrow.Author.Needs.{needs}
 use Rattle.account.proofs.gather.with_one.Statement.{statement}
@@ -35,12 +34,31 @@ greater-requires c κs = search needs
 lesser-requires : tie.Need-lesser-requires
 lesser-requires c κs = search needs
 
+only-requires : tie.Need-only-requires
+only-requires c κs = search needs
+
+sum-requires-7 : tie.Need-sum-requires-7
+sum-requires-7 c κs =
+    let s = c .before .before .before .before .before .before .before .before .before .before .before .before .before .before .before .before in
+    omega (arith, c .only .ensures, s .pre .enginemmass)
+
+only-requires-2 : tie.Need-only-requires-2
+only-requires-2 c κs = search needs
+
+sum-requires-8 : tie.Need-sum-requires-8
+sum-requires-8 c κs =
+    let s = c .before .before .before .before .before .before .before .before .before .before .before .before .before .before .before .before .before .before in
+    omega (arith, c .only2 .ensures, s .pre .wagonvmass)
+
 returns : tie.Need-returns
 unfolding withOne
 returns c =
-    let r = c .before .before .before .before .before in
+    let w = c .before in
+    let e = w .before .before in
+    let l = e .before .before in
+    let r = l .before .before .before in
     let a = r .before in
-    let s = a .before .before .before .before .before .before .before .before .args in
+    let s = a .before .before .before .before .before .before .before .before .before .before .before .args in
     let run = a .before .before .before .before .before .before .run-to .ensures in
     λ i.
     record {
@@ -52,8 +70,11 @@ returns c =
       joined = a .sum6 .ensures i;
       trailing = run i;
       longest = (r .greater .ensures ∙ ap (max (s .so-far .longest)) run) i;
-      rule18 = s .so-far .rule18 || (isWagon (s .v) && hasMatrossow (s .v) && not (isIsolated (s .v)));
-      slowest = c .lesser .ensures i;
+      rule18 = withOne (s .so-far) (s .v) .rule18;
+      slowest = l .lesser .ensures i;
+      enginemmass = (e .sum7 .ensures ∙ ap (s .so-far .enginemmass +_) (e .before .only .ensures)) i;
+      wagonvmass = (w .sum8 .ensures ∙ ap (s .so-far .wagonvmass +_) (w .before .only2 .ensures)) i;
+      enginenotm = withOne (s .so-far) (s .v) .enginenotm;
     }
 
 pub with-one-spec : {M : Type 1} → statement M
@@ -69,4 +90,8 @@ with-one-spec =
     sum-requires-6
     greater-requires
     lesser-requires
+    only-requires
+    sum-requires-7
+    only-requires-2
+    sum-requires-8
     returns)

@@ -1,5 +1,7 @@
 -- `account::joining::add` meets its contract: figures within their ceilings add without wrapping. Assumes nothing.
+use Prim.Native.Nat.{max}
 use native.Mathlib.Omega.{arith}
+use mathlib.Core.Path.{ap₂, _∙_}
 use Rattle.account.specs.Joining.{joining}
 use Rattle.account.proofs.Ceils.{figure-at}
 use borrow.Author.Needs.{needs}
@@ -77,32 +79,53 @@ sum-requires-13 c κs =
     let s = c .before .before .before .before .before .before .before .before .before .before .before .before .before .before .before .before .before .before .before .before .before .before .before .before .before .before .before .before .before .before in
     omega (arith, figure-at (s .args .left) (s .pre .0) 20, figure-at (s .args .right) (s .pre .1) 20)
 
+sum-requires-14 : tie.Need-sum-requires-14
+sum-requires-14 c κs =
+    let s = c .before .before .before .before .before .before .before .before .before .before .before .before .before .before .before .before .before .before .before .before .before .before .before .before .before .before .before .before .before .before .before in
+    omega (arith, figure-at (s .args .left) (s .pre .0) 21, figure-at (s .args .right) (s .pre .1) 21)
+
+sum-requires-15 : tie.Need-sum-requires-15
+sum-requires-15 c κs =
+    let s = c .before .before .before .before .before .before .before .before .before .before .before .before .before .before .before .before .before .before .before .before .before .before .before .before .before .before .before .before .before .before .before .before in
+    omega (arith, figure-at (s .args .left) (s .pre .0) 22, figure-at (s .args .right) (s .pre .1) 22)
+
 returns : tie.Need-returns
 unfolding joining
 returns c =
-    let r = c .before .before .before .before .before .before .before .before .before .before .before .before in
+    let e = c .before .before in
+    let l = e .before .before .before in
+    let r = l .before .before .before .before .before .before .before .before .before .before .before in
     let s = r .before .before .before .before .before in
-    simp (
-      s .before .before .before .before .before .before .before .before .before .before .before .fill-first .ensures,
-      s .before .before .before .before .before .before .before .before .before .before .sum .ensures,
-      s .before .before .before .before .before .before .before .before .before .sum2 .ensures,
-      s .before .before .before .before .before .before .before .before .sum3 .ensures,
-      s .before .before .before .before .before .before .before .sum4 .ensures,
-      s .before .before .before .before .before .before .sum5 .ensures,
-      s .before .before .before .before .before .sum6 .ensures,
-      s .before .before .before .before .sum7 .ensures,
-      s .before .before .before .sum8 .ensures,
-      s .before .before .sum9 .ensures,
-      s .before .sum10 .ensures,
-      s .sum11 .ensures,
-      r .before .before .before .before .go-on .ensures,
-      r .before .before .before .go-on2 .ensures,
-      r .before .before .greater .ensures,
-      r .before .sum12 .ensures,
-      r .greater2 .ensures,
-      c .before .lesser .ensures,
-      c .sum13 .ensures,
-    )
+    let f = s .before .before .before .before .before .before .before .before .before .before .before in
+    let args = f .before .before .before .args in
+    let j = joining (args .left) (args .right) in
+    λ i.
+    record {
+      count = s .before .before .before .before .before .before .before .before .before .before .sum .ensures i;
+      mass = s .before .before .before .before .before .before .before .before .before .sum2 .ensures i;
+      vmass = s .before .before .before .before .before .before .before .before .sum3 .ensures i;
+      mmass = s .before .before .before .before .before .before .before .sum4 .ensures i;
+      length = s .before .before .before .before .before .before .sum5 .ensures i;
+      axles = s .before .before .before .before .before .sum6 .ensures i;
+      vaxles = s .before .before .before .before .sum7 .ensures i;
+      engines = s .before .before .before .sum8 .ensures i;
+      mset = s .before .before .sum9 .ensures i;
+      isolated = s .before .sum10 .ensures i;
+      dloads = s .sum11 .ensures i;
+      leading = r .before .before .before .before .go-on .ensures i;
+      trailing = r .before .before .before .go-on2 .ensures i;
+      longest = (r .greater2 .ensures ∙ ap₂ max (r .before .before .greater .ensures) (r .before .sum12 .ensures)) i;
+      behind = j .behind;
+      rule16 = j .rule16;
+      rule17 = j .rule17;
+      rule18 = j .rule18;
+      slowest = l .lesser .ensures i;
+      first = f .fill-first .ensures i;
+      vlength = e .before .before .sum13 .ensures i;
+      enginemmass = e .before .sum14 .ensures i;
+      wagonvmass = e .sum15 .ensures i;
+      enginenotm = j .enginenotm;
+    }
 
 pub add-spec : {M : Type 1} → statement M
 add-spec =
@@ -127,4 +150,6 @@ add-spec =
     greater-requires-2
     lesser-requires
     sum-requires-13
+    sum-requires-14
+    sum-requires-15
     returns)

@@ -5,8 +5,8 @@ use mathlib.Core.Path.{_≡_, ap, _∙_}
 use denote.Ref.{now}
 use lib.ListN.{drop}
 use Rattle.record.specs.Records.{recordCount}
-use Rattle.rules.specs.CrossBorder.{crossBorder}
 use Rattle.rules.specs.Grants.{decisionOf}
+use Rattle.books.specs.Books.{bookOf}
 use Rattle.sections.specs.Gathering.{offersOn}
 use Rattle.sections.specs.Sections.{sectionsOf}
 use Rattle.sections.proofs.Gathers.{offers-none, offers-from}
@@ -15,10 +15,10 @@ use Rattle.sections.proofs.grant.offers_on.Statement.{statement}
 use Rattle.sections.proofs.grant.offers_on.Tie as tie
 
 abbrev Inv-loop : tie.InvT-loop
-Inv-loop f orders all₀ k₀ all k = (k ≤ recordCount orders) × (all ≡ offersOn crossBorder f (drop k (sectionsOf orders)))
+Inv-loop book f orders all₀ k₀ all k = (k ≤ recordCount orders) × (all ≡ offersOn (bookOf book) f (drop k (sectionsOf orders)))
 
 abbrev μ-loop : tie.MeasureT-loop
-μ-loop f orders all₀ k₀ all k = k
+μ-loop book f orders all₀ k₀ all k = k
 
 on-no-section-requires : tie.Need-on-no-section-requires Inv-loop μ-loop
 on-no-section-requires c κs = search needs
@@ -26,7 +26,7 @@ on-no-section-requires c κs = search needs
 loop-holds : tie.Need-loop-holds Inv-loop μ-loop
 loop-holds c =
     let a = c .before .before .args in
-    (omega arith, c .on-no-section .ensures (a .f) ∙ offers-none (a .f) (now (a .orders)))
+    (omega arith, c .on-no-section .ensures (a .f) ∙ offers-none (a .book) (a .f) (now (a .orders)))
 
 sub-k : tie.Need-sub-k Inv-loop μ-loop
 sub-k c = search needs
@@ -63,21 +63,22 @@ loop-again c =
     let r = c .before .before in
     let l = r .before .before .before in
     let a = l .before .before .before .args in
+    let b = a .book in
     let f = a .f in
     let o = now (a .orders) in
     let k = l .loop .k - 1 in
     let next : l .loop .k ≡ suc (l .loop .k - 1) = omega arith in
     let within : l .loop .k - 1 < recordCount o = omega arith in
-    let here = c .before .decide .ensures ∙ ap (decisionOf crossBorder f) (r .read-order .ensures) in
-    let further = l .loop .inv .1 ∙ ap (λ (j : ℕ). offersOn crossBorder f (drop j (sectionsOf o))) next in
-    (omega arith, c .with-section .ensures ∙ offers-from f o k within _ _ here further)
+    let here = c .before .decide .ensures ∙ ap (decisionOf (bookOf b) f) (r .read-order .ensures) in
+    let further = l .loop .inv .1 ∙ ap (λ (j : ℕ). offersOn (bookOf b) f (drop j (sectionsOf o))) next in
+    (omega arith, c .with-section .ensures ∙ offers-from b f o k within _ _ here further)
 
 returns : tie.Need-returns Inv-loop μ-loop
 returns c =
     let l = c .before in
     let a = l .before .before .before .args in
     let e : l .loop .k ≡ 0 = omega arith in
-    l .loop .inv .1 ∙ ap (λ (j : ℕ). offersOn crossBorder (a .f) (drop j (sectionsOf (now (a .orders))))) e
+    l .loop .inv .1 ∙ ap (λ (j : ℕ). offersOn (bookOf (a .book)) (a .f) (drop j (sectionsOf (now (a .orders))))) e
 
 pub offers-on-spec : {M : Type 1} → statement M
 offers-on-spec =

@@ -7,9 +7,11 @@ use denote.Ref.{now}
 use lib.ListN.{length, set, length-set}
 use Rattle.record.specs.Records.{recordCount}
 use Rattle.order.specs.Orders.{orderOf}
-use Rattle.rules.specs.CrossBorder.{crossBorder}
+use Rattle.order.specs.declared.Order.{Order}
+use Rattle.categories.specs.Categories.{categoryOf, rowsOf}
+use Rattle.books.specs.Books.{bookOf}
 use Rattle.sections.specs.Routes.{sectionSpeed, speedsOn}
-use Rattle.sections.specs.Sections.{sectionsOf}
+use Rattle.sections.specs.Sections.{sectionsOf, bookNamedIn}
 use Rattle.sections.proofs.Lays.{laidTo, laid-more, laid-whole, length-speeds, speed-there}
 use borrow.Author.Needs.{needs}
 use Rattle.sections.proofs.grant.put_speeds.Statement.{statement}
@@ -17,10 +19,13 @@ use Rattle.sections.proofs.grant.put_speeds.Tie as tie
 
 abbrev Inv-loop : tie.InvT-loop
 Inv-loop number f orders speeds₀ c n i₀ speeds i =
-    (i ≤ n) × (speeds ≡ laidTo (speedsOn crossBorder number f (sectionsOf orders)) speeds₀ i) × (length speeds ≡ length speeds₀)
+    (i ≤ n) × (speeds ≡ laidTo (speedsOn (bookOf (bookNamedIn orders)) number f (sectionsOf orders)) speeds₀ i) × (length speeds ≡ length speeds₀)
 
 abbrev μ-loop : tie.MeasureT-loop
 μ-loop number f orders speeds₀ c n i₀ speeds i = n - i
+
+first-section-requires : tie.Need-first-section-requires Inv-loop μ-loop
+first-section-requires c κs = search needs
 
 category-of-requires : tie.Need-category-of-requires Inv-loop μ-loop
 category-of-requires c κs = search needs
@@ -66,16 +71,19 @@ loop-again c =
     let r = c .before in
     let l = r .before .before .before in
     let g = l .before .before in
-    let a = g .before .before .before .args in
+    let first = g .before in
+    let a = first .before .before .before .args in
     let o = now (a .orders) in
+    let b = bookNamedIn o in
     let i = l .loop .i in
     let within : l .loop .i < recordCount o = omega (arith, l .before .fewer .ensures) in
     let room : l .loop .i < length (now (a .speeds)) = omega (arith, l .before .fewer .ensures) in
-    let bytes = speedsOn crossBorder (a .number) (a .f) (sectionsOf o) in
-    let inside : l .loop .i < length (speedsOn crossBorder (a .number) (a .f) (sectionsOf o)) = omega (arith, length-speeds (a .number) (a .f) o) in
-    let speed = c .speed-for .ensures ∙ speed-there (a .number) (a .f) o i within _ _ (g .category-of .ensures) (r .read-order .ensures) in (
+    let bytes = speedsOn (bookOf b) (a .number) (a .f) (sectionsOf o) in
+    let inside : l .loop .i < length (speedsOn (bookOf b) (a .number) (a .f) (sectionsOf o)) = omega (arith, length-speeds b (a .number) (a .f) o) in
+    let category = g .category-of .ensures ∙ ap (λ (x : Order). categoryOf (a .number) (rowsOf (x .book))) (first .first-section .ensures) in
+    let speed = c .speed-for .ensures ∙ speed-there b (a .number) (a .f) o i within _ _ category (r .read-order .ensures) in (
       omega arith,
-      ap (λ (s : List ℕ). set s i (c .speed-for .result)) (l .loop .inv .1) ∙ laid-more bytes (now (a .speeds)) i (sectionSpeed crossBorder (a .number) (a .f) (orderOf [])) (c .speed-for .result) inside room speed,
+      ap (λ (s : List ℕ). set s i (c .speed-for .result)) (l .loop .inv .1) ∙ laid-more bytes (now (a .speeds)) i (sectionSpeed (bookOf b) (a .number) (a .f) (orderOf [])) (c .speed-for .result) inside room speed,
       length-set (l .loop .speeds) i (c .speed-for .result) ∙ l .loop .inv .2,
     )
 
@@ -85,8 +93,10 @@ same-length c = c .before .loop .inv .2
 returns : tie.Need-returns Inv-loop μ-loop
 returns c =
     let l = c .before in
-    let a = l .before .before .before .before .before .args in
-    let n : l .loop .i ≡ min (length (speedsOn crossBorder (a .number) (a .f) (sectionsOf (now (a .orders))))) (length (now (a .speeds))) = omega (arith, l .before .fewer .ensures, length-speeds (a .number) (a .f) (now (a .orders))) in
+    let a = l .before .before .before .before .before .before .args in
+    let o = now (a .orders) in
+    let b = bookNamedIn o in
+    let n : l .loop .i ≡ min (length (speedsOn (bookOf b) (a .number) (a .f) (sectionsOf o))) (length (now (a .speeds))) = omega (arith, l .before .fewer .ensures, length-speeds b (a .number) (a .f) o) in
     l .loop .inv .1 ∙ laid-whole _ _ (l .loop .i) n
 
 pub put-speeds-spec : {M : Type 1} → statement M
@@ -95,6 +105,7 @@ put-speeds-spec =
     (tie.spec
     Inv-loop
     μ-loop
+    first-section-requires
     category-of-requires
     fewer-requires
     loop-holds

@@ -10,22 +10,22 @@ use borrow.Author.Needs.{needs}
 use Rattle.sections.proofs.grant.with_section.Statement.{statement}
 use Rattle.sections.proofs.grant.with_section.Tie as tie
 
--- five members of each are zipped as far as i
+-- six members of each are zipped as far as i
 abbrev Zipped : (ℕ → ℕ → ℕ) → List ℕ → List ℕ → List ℕ → ℕ → Type 0
-Zipped g here further zs i = (length here ≡ 5) × (length further ≡ 5) × (length zs ≡ 5) × (zs ≡ zippedTo g i here further)
+Zipped g here further zs i = (length here ≡ 6) × (length further ≡ 6) × (length zs ≡ 6) × (zs ≡ zippedTo g i here further)
 
 module _ (g : ℕ → ℕ → ℕ) (here further zs : List ℕ) (i : ℕ) (w : Zipped g here further zs i) where
-  turn : (z : ℕ) → i < 5 → z ≡ g (getD here i 0) (getD zs i 0) → Zipped g here further (set zs i z) (i + 1)
+  turn : (z : ℕ) → i < 6 → z ≡ g (getD here i 0) (getD zs i 0) → Zipped g here further (set zs i z) (i + 1)
   turn z h q = (w .0, w .1, length-set zs i z ∙ w .2, zipped-more g i z here further zs (w .3) (omega (arith, w .0)) (omega (arith, w .1)) q)
 
-  end : i ≡ 5 → zs ≡ zipWith g here further
+  end : i ≡ 6 → zs ≡ zipWith g here further
   end e = w .3 ∙ ap (λ (n : ℕ). zippedTo g n here further) (e ∙ sym (w .0)) ∙ zipped-whole g here further (w .0 ∙ sym (w .1))
 
 abbrev Inv-loop : tie.InvT-loop
-Inv-loop broken-here speeds-here broken₀ speeds₀ i₀ broken speeds i = (i ≤ 5) × Zipped firstRule broken-here broken₀ broken i × Zipped min speeds-here speeds₀ speeds i
+Inv-loop broken-here speeds-here broken₀ speeds₀ i₀ broken speeds i = (i ≤ 6) × Zipped firstRule broken-here broken₀ broken i × Zipped min speeds-here speeds₀ speeds i
 
 abbrev μ-loop : tie.MeasureT-loop
-μ-loop broken-here speeds-here broken₀ speeds₀ i₀ broken speeds i = 5 - i
+μ-loop broken-here speeds-here broken₀ speeds₀ i₀ broken speeds i = 6 - i
 
 loop-holds : tie.Need-loop-holds Inv-loop μ-loop
 loop-holds c = (omega arith, (search needs, search needs, search needs, refl), (search needs, search needs, search needs, refl))
@@ -69,8 +69,8 @@ returns : tie.Need-returns Inv-loop μ-loop
 unfolding inFront
 returns c =
     let l = c .before .loop in
-    let five : l .i ≡ 5 = omega arith in
-    λ i. record { broken = end firstRule _ _ _ (l .i) (l .inv .1) five i; speeds = end min _ _ _ (l .i) (l .inv .2) five i }
+    let six : l .i ≡ 6 = omega arith in
+    λ i. record { broken = end firstRule _ _ _ (l .i) (l .inv .1) six i; speeds = end min _ _ _ (l .i) (l .inv .2) six i }
 
 pub with-section-spec : {M : Type 1} → statement M
 with-section-spec =

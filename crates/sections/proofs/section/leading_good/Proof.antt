@@ -8,20 +8,20 @@ use denote.Ref.{now}
 use Rattle.lists.specs.Words.{all}
 use Rattle.record.specs.Records.{recordCount, records}
 use Rattle.record.proofs.Vehicles.{passing-more, passing-ends, passing-whole}
-use Rattle.sections.specs.Sections.{askedIn, goodSection}
+use Rattle.sections.specs.Sections.{askedIn, bookNamedIn, goodSection}
 use Rattle.sections.proofs.Places.{section-judged}
 use borrow.Author.Needs.{needs}
 use Rattle.sections.proofs.section.leading_good.Statement.{statement}
 use Rattle.sections.proofs.section.leading_good.Tie as tie
 
 abbrev Inv-loop : tie.InvT-loop
-Inv-loop orders n asked k₀ k = (k ≤ n) × (all (goodSection (askedIn orders)) (records k orders) ≡ true)
+Inv-loop orders n first book k₀ k = (k ≤ n) × (all (goodSection (askedIn orders) (bookNamedIn orders)) (records k orders) ≡ true)
 
 abbrev μ-loop : tie.MeasureT-loop
-μ-loop orders n asked k₀ k = n - k
+μ-loop orders n first book k₀ k = n - k
 
-asked-in-requires : tie.Need-asked-in-requires Inv-loop μ-loop
-asked-in-requires c κs = search needs
+first-section-requires : tie.Need-first-section-requires Inv-loop μ-loop
+first-section-requires c κs = search needs
 
 loop-holds : tie.Need-loop-holds Inv-loop μ-loop
 unfolding all records
@@ -49,8 +49,8 @@ returns : tie.Need-returns Inv-loop μ-loop
 returns c =
     let s = c .before .before .before .before in
     let o = now (s .before .before .before .args .orders) in
-    let judged = c .before .is-good-section .ensures ∙ section-judged o (s .loop .k) (s .before .asked-in .result) (s .before .asked-in .ensures) in
-    passing-ends (goodSection (askedIn o)) o _ (s .loop .k) (c .before .before .before .loop-test .taken) (s .loop .inv .1) (sym judged ∙ not-true _ (c .if1 .taken))
+    let judged = c .before .is-good-section .ensures ∙ section-judged o (s .loop .k) (s .before .first-section .result) (s .before .first-section .ensures) in
+    passing-ends (goodSection (askedIn o) (bookNamedIn o)) o _ (s .loop .k) (c .before .before .before .loop-test .taken) (s .loop .inv .1) (sym judged ∙ not-true _ (c .if1 .taken))
 
 add-k : tie.Need-add-k Inv-loop μ-loop
 add-k c = search needs
@@ -62,8 +62,8 @@ loop-again : tie.Need-loop-again Inv-loop μ-loop
 loop-again c =
     let s = c .before .before .before .before in
     let o = now (s .before .before .before .args .orders) in
-    let judged = c .before .is-good-section .ensures ∙ section-judged o (s .loop .k) (s .before .asked-in .result) (s .before .asked-in .ensures) in
-    (omega arith, passing-more (goodSection (askedIn o)) o (s .loop .k) (s .loop .inv .1) (sym judged ∙ not-false _ (c .if1 .left)))
+    let judged = c .before .is-good-section .ensures ∙ section-judged o (s .loop .k) (s .before .first-section .result) (s .before .first-section .ensures) in
+    (omega arith, passing-more (goodSection (askedIn o) (bookNamedIn o)) o (s .loop .k) (s .loop .inv .1) (sym judged ∙ not-false _ (c .if1 .left)))
 
 returns-2 : tie.Need-returns-2 Inv-loop μ-loop
 returns-2 c =
@@ -71,7 +71,7 @@ returns-2 c =
     let o = now (s .before .before .before .args .orders) in
     let end : s .loop .k ≡ recordCount o = omega arith in
     let t = s .loop .inv .1 in
-    passing-whole (goodSection (askedIn o)) o _ (rw end at t)
+    passing-whole (goodSection (askedIn o) (bookNamedIn o)) o _ (rw end at t)
 
 pub leading-good-spec : {M : Type 1} → statement M
 leading-good-spec =
@@ -79,7 +79,7 @@ leading-good-spec =
     (tie.spec
     Inv-loop
     μ-loop
-    asked-in-requires
+    first-section-requires
     loop-holds
     mul-at
     add-is-good-section
