@@ -380,6 +380,17 @@ mod tests {
         }
     }
 
+    /// 600.0 t are hauled: `granted` where one section of two lets them be coupled, nothing where it lets 599.9 t.
+    fn one_section_limits_600_t(draft: &Draft, granted: (u64, Vec<u8>)) {
+        for (limit, granted) in [(6_000, granted), (5_999, (0, vec![0; 2]))] {
+            let [mut coupling, mut admissible] = [[draft.order; 2]; 2];
+            coupling[1].coupling = limit;
+            admissible[0].admissible = limit;
+            assert_eq!(route_of(draft, &coupling), granted, "{limit}");
+            assert_eq!(route_of(draft, &admissible), granted, "{limit}");
+        }
+    }
+
     /// All set to M: 580.0 t are braked, 57 percent of 690.0 t are 393.3 t, and 600.0 t are hauled.
     #[test]
     fn one_section_s_limits_take_the_category_from_the_route() {
@@ -388,13 +399,7 @@ mod tests {
             vehicle.setting = SET_TO_M;
         }
         draft.order.asked = 4;
-        for (limit, granted) in [(6_000, (4, vec![100; 2])), (5_999, (0, vec![0; 2]))] {
-            let [mut coupling, mut admissible] = [[draft.order; 2]; 2];
-            coupling[1].coupling = limit;
-            admissible[0].admissible = limit;
-            assert_eq!(route_of(&draft, &coupling), granted, "{limit}");
-            assert_eq!(route_of(&draft, &admissible), granted, "{limit}");
-        }
+        one_section_limits_600_t(&draft, (4, vec![100; 2]));
     }
 
     #[test]
@@ -449,14 +454,7 @@ mod tests {
 
     #[test]
     fn one_section_s_limits_take_all_domestic_categories() {
-        let draft = b();
-        for (limit, granted) in [(6_000, (1, vec![140; 2])), (5_999, (0, vec![0; 2]))] {
-            let [mut coupling, mut admissible] = [[draft.order; 2]; 2];
-            coupling[1].coupling = limit;
-            admissible[0].admissible = limit;
-            assert_eq!(route_of(&draft, &coupling), granted, "{limit}");
-            assert_eq!(route_of(&draft, &admissible), granted, "{limit}");
-        }
+        one_section_limits_600_t(&b(), (1, vec![140; 2]));
     }
 
     /// The first section that has a field out of range, another asked category or another book, whichever it is.

@@ -1,21 +1,15 @@
 -- What is known of the facts and the order of a call that is answered with a sheet. Assumes nothing.
-use Prim.Native.Nat.{ℕ, _*_, _≤_, _<_}
-use native.Mathlib.Omega.{arith}
+use Prim.Native.Nat.{ℕ, _*_, _≤_}
 use mathlib.Core.Path.{_≡_, refl, ap, _∙_, subst}
 use mathlib.Core.Bool.{true}
 use mathlib.Core.List.{List}
-use borrow.Author.Tests.{leb-true}
-use lib.Dec.{eqb, leb}
-use lib.ListN.{length, getD, drop}
-use Rattle.lists.specs.Words.{all, leading, firstOf}
-use Rattle.record.specs.Ranges.{field, fieldGood, inRanges}
+use lib.ListN.{length, drop}
+use Rattle.lists.specs.Words.{leading, firstOf}
 use Rattle.record.specs.Vehicles.{vehicles, isWorking}
-use Rattle.lists.proofs.Lists.{both, all-at}
 use Rattle.account.specs.Portions.{accounted}
 use Rattle.account.specs.declared.Account.{Account}
-use Rattle.order.specs.Orders.{valueAt, bookIn, fieldsOf, goodOrder, orderOf}
-use Rattle.order.specs.declared.Book.{Book}
-use Rattle.order.specs.declared.Book.the-variants.{CrossBorder, Domestic}
+use Rattle.order.specs.Orders.{orderOf}
+use Rattle.order.proofs.Demands.{german-most}
 use Rattle.facts.specs.Facts.{factsOf, factsBeside, Bounded}
 use Rattle.facts.proofs.Demands.{facts-bounded}
 use Rattle.judge.specs.Answers.{isDone, orderRefusals, recordRefusals, trainShape, trainRefusals, trainAnswer, accountRefusals, accountAnswer}
@@ -27,21 +21,8 @@ use Rattle.judge.proofs.Engines as engines
 use Rattle.judge.proofs.Engines.{engines-ready, hauled-within}
 use Rattle.judge.proofs.Trains.{recordAnswer, shapeAnswer, records-good, parted-answer, parted-ready}
 
-german-most : (order : List ℕ) (room : ℕ) → isDone (firstOf Done (orderRefusals order room)) ≡ true → orderOf order .german ≤ 200
-unfolding goodOrder orderOf
-german-most order room e = go (bookIn order) (order-good order room e)
-  where
-    -- byte 6 is the seventh field of either table, and 0 in a domestic one
-    in-field : (b : Book) → inRanges (fieldsOf b) order ≡ true → fieldGood order (getD (fieldsOf b) 6 (field 0 0 0 0)) ≡ true
-    in-field b g = all-at (fieldGood order) (fieldsOf b) 6 (field 0 0 0 0) (seven b) (both (eqb (length order) 24) (all (fieldGood order) (fieldsOf b)) g .1)
-      where
-        seven : (b : Book) → 6 < length (fieldsOf b)
-        seven CrossBorder = omega arith
-        seven Domestic = omega arith
-
-    go : (b : Book) → inRanges (fieldsOf b) order ≡ true → valueAt 6 1 order ≤ 200
-    go CrossBorder g = leb-true (valueAt 6 1 order) 200 (both (leb 0 (valueAt 6 1 order)) (leb (valueAt 6 1 order) 200) (in-field CrossBorder g) .1)
-    go Domestic g = omega (arith, leb-true (valueAt 6 1 order) 0 (both (leb 0 (valueAt 6 1 order)) (leb (valueAt 6 1 order) 0) (in-field Domestic g) .1))
+german-within : (order : List ℕ) (room : ℕ) → isDone (firstOf Done (orderRefusals order room)) ≡ true → orderOf order .german ≤ 200
+german-within order room e = german-most order (order-good order room e)
 
 -- the facts of a train that is ready, whatever was lent beside it
 module _ (bs : List ℕ) (a : isDone (firstOf Done (recordRefusals bs)) ≡ true) (s : isDone (firstOf Done (trainShape (vehicles bs))) ≡ true) where
@@ -63,7 +44,7 @@ bounded-train bs order sheet done =
     let g =
     all-passed (trainAnswer bs order (length sheet)) (recordAnswer bs) (firstOf Done (orderRefusals order (length sheet))) (shapeAnswer bs)
     (train-groups bs order (length sheet)) (ap isDone done) in
-    (train-facts-bounded bs (g .0) (g .2), german-most order (length sheet) (g .1))
+    (train-facts-bounded bs (g .0) (g .2), german-within order (length sheet) (g .1))
 
 pub bounded-account : (bs : List ℕ) (hauled : Account) (order : List ℕ) (room : ℕ) → accountAnswer bs hauled order room ≡ Done
     → Bounded (factsBeside (vehicles bs) hauled) × (orderOf order .german ≤ 200)
@@ -72,4 +53,4 @@ bounded-account bs hauled order room done =
     let g =
     all-passed (accountAnswer bs hauled order room) (engines.engineAnswer bs hauled) (firstOf Done (orderRefusals order room)) (engines.shapeAnswer bs hauled)
     (account-groups bs hauled order room) (ap isDone done) in
-    (facts-bounded bs hauled (engines-ready bs hauled (g .0) (g .2)) (hauled-within bs hauled (g .0) (g .2)), german-most order room (g .1))
+    (facts-bounded bs hauled (engines-ready bs hauled (g .0) (g .2)) (hauled-within bs hauled (g .0) (g .2)), german-within order room (g .1))

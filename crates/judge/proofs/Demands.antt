@@ -1,5 +1,6 @@
 -- The demands, as far as a train and its sheet go: the theorems, over the definitions of specs/. Assumes nothing.
 use Prim.Native.Nat.{ℕ, _≤_}
+use native.Mathlib.Omega.{arith}
 use mathlib.Core.Path.{_≡_, refl, sym, ap, ap₂, _∙_}
 use mathlib.Core.Logic.{_⊎_}
 use mathlib.Core.Bool.{true, false}
@@ -25,6 +26,9 @@ use Rattle.order.specs.declared.Order.{Order}
 use Rattle.facts.specs.Engines.{GoodEngines}
 use Rattle.facts.specs.Facts.{factsOf, besideOf, factsBeside, Bounded}
 use Rattle.facts.specs.declared.Facts.{Facts}
+use Rattle.order.proofs.Demands.{domestic-german}
+use Rattle.categories.specs.Categories.{stepped, percentageOf}
+use Rattle.categories.specs.declared.category.Category.{Category}
 use Rattle.rules.specs.CrossBorder.{crossBorder}
 use Rattle.rules.specs.Withdrawn.{formerBook, longer}
 use Rattle.rules.proofs.Demands.{train-not-longer, account-not-longer}
@@ -207,6 +211,11 @@ module _ (engines : List ℕ) (g : Grouping ℕ) (order sheet : List ℕ) (e : G
     where
       portion-done : GoodPortion (uncut g) → accounted (uncut g) .answer ≡ Accepted
       portion-done good = ap (λ (r : Accounted). r .answer) (portion-done-exactly (uncut g) .1 good)
+
+-- ---- of a domestic order p is the table's at the train's length, since its byte 6 is 0
+pub domestic-percentage : (order : List ℕ) → goodOrder order ≡ true → orderOf order .book ≡ Domestic → (c : Category) (f : Facts) → percentageOf c f (orderOf order) ≡ stepped (c .percentage) (f .trainLength)
+unfolding percentageOf
+domestic-percentage order good named c f = omega (arith, domestic-german order good named)
 
 -- ---- a cross-border order is answered as before request Six, and gives the bytes that it gave
 module _ (order : List ℕ) (cross : orderOf order .book ≡ CrossBorder) where
