@@ -6,3 +6,4 @@ pub mod Bytes
 pub mod Unique
 pub mod Runs
 pub mod Demands
+pub mod Limits

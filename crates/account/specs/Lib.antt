@@ -5,3 +5,4 @@ pub mod Answers
 pub mod Portions
 pub mod Groupings
 pub mod Gathering
+pub mod Limits
