@@ -5,3 +5,4 @@ pub mod Floors
 pub mod Bytes
 pub mod Unique
 pub mod Demands
+pub mod Cases

@@ -2,3 +2,4 @@
 pub mod AccountRecords
 pub mod Demands
 pub mod Unique
+pub mod Limits
