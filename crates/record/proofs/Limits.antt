@@ -1,15 +1,19 @@
--- The vehicle record at the ends of its ranges, as written, so read, and what its bytes mean: three tables, a proof each. Assumes nothing.
+-- The vehicle record at the ends of its ranges, its number and its length, as written, so read, and what its bytes mean: a table and a proof each. Assumes nothing.
 use mathlib.Core.Path.{_≡_, refl}
 use mathlib.Core.List.{map}
 use Rattle.lists.specs.Words.{all}
 use Rattle.lists.specs.Numbers.{littleEndian}
 use Rattle.closing.specs.Closing.{closes}
 use Rattle.record.specs.Vehicles.{good, vehicle, reading}
-use Rattle.record.specs.Limits.{atLimits, expected, written, says, meant, meanings}
+use Rattle.record.specs.Limits.{atLimits, expected, offered, taken, written, says, meant, meanings}
 
 pub limits : atLimits ≡ expected
-unfolding good all littleEndian closes
+unfolding all littleEndian
 limits = refl
+
+pub whole-and-closing : map good offered ≡ taken
+unfolding good all littleEndian closes
+whole-and-closing = refl
 
 pub read-as-written : map reading written ≡ says
 unfolding reading good vehicle all littleEndian closes

@@ -4,7 +4,7 @@ use mathlib.Core.Bool.{Bool, true, false}
 use mathlib.Core.List.{List, [], _∷_, _++_, map}
 use lib.ListN.{take, drop}
 use Rattle.record.specs.Ranges.{inRanges}
-use Rattle.record.specs.Vehicles.{fields, good, vehicle, reading, isWagon, isHauledEngine, isWorking, isIsolated, isM, isV, isR, isJoined, hasMatrossow, hasDLoad}
+use Rattle.record.specs.Vehicles.{fields, vehicle, isWagon, isHauledEngine, isWorking, isIsolated, isM, isV, isR, isJoined, hasMatrossow, hasDLoad}
 use Rattle.record.specs.declared.vehicle.Vehicle.{Vehicle}
 use Rattle.record.specs.declared.vehicle.Reading.{Reading}
 use Rattle.record.specs.declared.vehicle.Reading.the-variants.{Good}
@@ -44,10 +44,6 @@ atLimits =
     ++ ranged 21 1 (0 ∷ 1 ∷ 2 ∷ [])
     ++ ranged 22 1 (0 ∷ 1 ∷ 2 ∷ [])
     ++ ranged 23 1 (0 ∷ 1 ∷ [])
-    -- the least and the greatest number that close, and their neighbours
-    ++ map (λ x. good (having lowest 0 8 x)) (17 ∷ 18 ∷ 19 ∷ 999999999990 ∷ 999999999991 ∷ 999999999992 ∷ [])
-    -- 23, 24 and 25 bytes
-    ++ map good (take 23 lowest ∷ lowest ∷ (lowest ++ 0 ∷ []) ∷ [])
 
 abbrev pub expected : List Bool
 expected =
@@ -64,9 +60,16 @@ expected =
     ∷ true ∷ true ∷ false
     ∷ true ∷ true ∷ false
     ∷ true ∷ false
-    ∷ false ∷ true ∷ false ∷ false ∷ true ∷ false
-    ∷ false ∷ true ∷ false
     ∷ []
+
+-- the least and the greatest number that close, and their neighbours; then 23, 24 and 25 bytes
+abbrev pub offered : List (List ℕ)
+offered =
+    map (λ x. having lowest 0 8 x) (17 ∷ 18 ∷ 19 ∷ 999999999990 ∷ 999999999991 ∷ 999999999992 ∷ [])
+    ++ (take 23 lowest ∷ lowest ∷ (lowest ++ 0 ∷ []) ∷ [])
+
+abbrev pub taken : List Bool
+taken = false ∷ true ∷ false ∷ false ∷ true ∷ false ∷ false ∷ true ∷ false ∷ []
 
 -- ---- as written, so read
 -- a working engine set to M and joined, a wagon set to V with byte 21, a hauled engine set to R with a D load
