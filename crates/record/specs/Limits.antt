@@ -2,12 +2,14 @@
 use Prim.Native.Nat.{ℕ, zero, suc, _+_, _/_, _%_}
 use mathlib.Core.Bool.{Bool, true, false}
 use mathlib.Core.List.{List, [], _∷_, _++_, map}
-use lib.ListN.{take, drop}
+use lib.ListN.{take, drop, replicate}
 use Rattle.record.specs.Ranges.{inRanges}
-use Rattle.record.specs.Vehicles.{fields, vehicle, isWagon, isHauledEngine, isWorking, isIsolated, isM, isV, isR, isJoined, hasMatrossow, hasDLoad}
+use Rattle.record.specs.Vehicles.{fields, vehicle, firstBad, isWagon, isHauledEngine, isWorking, isIsolated, isM, isV, isR, isJoined, hasMatrossow, hasDLoad}
 use Rattle.record.specs.declared.vehicle.Vehicle.{Vehicle}
 use Rattle.record.specs.declared.vehicle.Reading.{Reading}
 use Rattle.record.specs.declared.vehicle.Reading.the-variants.{Good}
+use Rattle.record.specs.declared.vehicle.Found.{Found}
+use Rattle.record.specs.declared.vehicle.Found.the-variants.{At, Nothing}
 
 -- a number in so many bytes, the least first
 abbrev pub inBytes : ℕ → ℕ → List ℕ
@@ -86,6 +88,26 @@ says =
     ∷ Good (record { number = 318712345673; mass = 600; vmass = 430; mmass = 500; length = 150; axles = 4; kind = 0; setting = 2; joined = 0; speed = 120; matrossow = 1; dload = 0 })
     ∷ Good (record { number = 918012345677; mass = 2500; vmass = 0; mmass = 1; length = 1000; axles = 24; kind = 1; setting = 3; joined = 0; speed = 200; matrossow = 0; dload = 1 })
     ∷ []
+
+-- ---- a file
+-- two records and seven bytes more: from the head, in order, and no third
+abbrev pub file : List ℕ
+file = having lowest 8 2 600 ++ having lowest 8 2 700 ++ replicate 7 1
+
+abbrev pub filed : List (List ℕ)
+filed = having lowest 8 2 600 ∷ having lowest 8 2 700 ∷ []
+
+-- 3: the first record out of range, counted from 0; a mass of 0 is
+abbrev pub scans : List Found
+scans =
+    firstBad []
+    ∷ firstBad (lowest ∷ lowest ∷ [])
+    ∷ firstBad (lowest ∷ having lowest 8 2 0 ∷ having lowest 8 2 0 ∷ lowest ∷ [])
+    ∷ firstBad (having lowest 8 2 0 ∷ lowest ∷ [])
+    ∷ []
+
+abbrev pub found : List Found
+found = Nothing ∷ Nothing ∷ At 1 ∷ At 0 ∷ []
 
 -- ---- what a byte means
 -- these tests of a vehicle with a number in one byte
