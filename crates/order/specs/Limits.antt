@@ -38,25 +38,14 @@ shared order =
     ++ ranged order 12 4 (0 ∷ 1 ∷ 100000 ∷ 100001 ∷ [])
     ++ lengths order
 
-abbrev pub atLimits : List Bool
-atLimits =
-    shared lowest
-    -- 5 category asked, 6 percentage in the German timetable, 7 book
-    ++ ranged lowest 5 1 (0 ∷ 1 ∷ 5 ∷ 6 ∷ [])
-    ++ ranged lowest 6 1 (0 ∷ 200 ∷ 201 ∷ [])
-    ++ ranged lowest 7 1 (0 ∷ 1 ∷ 2 ∷ [])
-    -- 16-23 are 0
-    ++ withOneIn lowest (16 ∷ 17 ∷ 18 ∷ 19 ∷ 20 ∷ 21 ∷ 22 ∷ 23 ∷ [])
-    -- a domestic order: 5 category asked, 6 is 0, 16 column ME140, 17-23 are 0
-    ++ shared lowestDomestic
-    ++ ranged lowestDomestic 5 1 (0 ∷ 1 ∷ 6 ∷ 7 ∷ [])
-    ++ ranged lowestDomestic 6 1 (0 ∷ 1 ∷ [])
-    ++ ranged lowestDomestic 16 1 (0 ∷ 200 ∷ 201 ∷ [])
-    ++ withOneIn lowestDomestic (17 ∷ 18 ∷ 19 ∷ 20 ∷ 21 ∷ 22 ∷ 23 ∷ [])
+abbrev pub sharedCrossBorder : List Bool
+sharedCrossBorder = shared lowest
 
--- what both books share, before what follows
-abbrev expectedShared : List Bool → List Bool
-expectedShared rest =
+abbrev pub sharedDomestic : List Bool
+sharedDomestic = shared lowestDomestic
+
+abbrev pub expectedShared : List Bool
+expectedShared =
     true ∷ true ∷ false
     ∷ true ∷ true ∷ false
     ∷ true ∷ true ∷ false
@@ -65,24 +54,39 @@ expectedShared rest =
     ∷ false ∷ true ∷ true ∷ false
     ∷ false ∷ true ∷ true ∷ false
     ∷ false ∷ true ∷ false
-    ∷ rest
+    ∷ []
 
-abbrev expectedDomestic : List Bool
+-- 5 category asked, 6 percentage in the German timetable, 7 book, 16-23 are 0
+abbrev pub ofCrossBorder : List Bool
+ofCrossBorder =
+    ranged lowest 5 1 (0 ∷ 1 ∷ 5 ∷ 6 ∷ [])
+    ++ ranged lowest 6 1 (0 ∷ 200 ∷ 201 ∷ [])
+    ++ ranged lowest 7 1 (0 ∷ 1 ∷ 2 ∷ [])
+    ++ withOneIn lowest (16 ∷ 17 ∷ 18 ∷ 19 ∷ 20 ∷ 21 ∷ 22 ∷ 23 ∷ [])
+
+abbrev pub expectedCrossBorder : List Bool
+expectedCrossBorder =
+    false ∷ true ∷ true ∷ false
+    ∷ true ∷ true ∷ false
+    ∷ true ∷ true ∷ false
+    ∷ false ∷ false ∷ false ∷ false ∷ false ∷ false ∷ false ∷ false
+    ∷ []
+
+-- 5 category asked, 6 is 0, 16 column ME140, 17-23 are 0 (request Six)
+abbrev pub ofDomestic : List Bool
+ofDomestic =
+    ranged lowestDomestic 5 1 (0 ∷ 1 ∷ 6 ∷ 7 ∷ [])
+    ++ ranged lowestDomestic 6 1 (0 ∷ 1 ∷ [])
+    ++ ranged lowestDomestic 16 1 (0 ∷ 200 ∷ 201 ∷ [])
+    ++ withOneIn lowestDomestic (17 ∷ 18 ∷ 19 ∷ 20 ∷ 21 ∷ 22 ∷ 23 ∷ [])
+
+abbrev pub expectedDomestic : List Bool
 expectedDomestic =
     false ∷ true ∷ true ∷ false
     ∷ true ∷ false
     ∷ true ∷ true ∷ false
     ∷ false ∷ false ∷ false ∷ false ∷ false ∷ false ∷ false
     ∷ []
-
-abbrev pub expected : List Bool
-expected =
-    expectedShared
-    (false ∷ true ∷ true ∷ false
-    ∷ true ∷ true ∷ false
-    ∷ true ∷ true ∷ false
-    ∷ false ∷ false ∷ false ∷ false ∷ false ∷ false ∷ false ∷ false
-    ∷ expectedShared expectedDomestic)
 
 -- ---- as written, so read
 -- columns 120, 100, 95, 90, 80, category 5, 65 percent, LRA 7,000 t, admissible mass 1,600 t; with ME140 140, category 6, 10,000 t, 9,999.9 t

@@ -6,11 +6,11 @@ use Rattle.lists.specs.Numbers.{littleEndian}
 use Rattle.closing.specs.Closing.{closes}
 use Rattle.record.specs.Records.{records, recordCount, recordsOf}
 use Rattle.record.specs.Vehicles.{good, vehicle, reading, firstBad}
-use Rattle.record.specs.Limits.{atLimits, expected, offered, taken, written, says, file, filed, scans, found, meant, meanings}
+use Rattle.record.specs.Limits.{atLimits, expected, atByteLimits, expectedBytes, offered, taken, written, says, file, filed, scans, found, meant, meanings}
 
-pub limits : atLimits ≡ expected
+pub limits : (atLimits ≡ expected) × (atByteLimits ≡ expectedBytes)
 unfolding all littleEndian
-limits = refl
+limits = (refl, refl)
 
 pub whole-and-closing : map good offered ≡ taken
 unfolding good all littleEndian closes

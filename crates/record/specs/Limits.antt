@@ -36,8 +36,20 @@ atLimits =
     ++ ranged 10 2 (0 ∷ 2500 ∷ 2501 ∷ [])
     ++ ranged 12 2 (0 ∷ 2500 ∷ 2501 ∷ [])
     ++ ranged 14 2 (0 ∷ 1 ∷ 1000 ∷ 1001 ∷ [])
+
+abbrev pub expected : List Bool
+expected =
+    false ∷ true ∷ true ∷ false
+    ∷ false ∷ true ∷ true ∷ false
+    ∷ true ∷ true ∷ false
+    ∷ true ∷ true ∷ false
+    ∷ false ∷ true ∷ true ∷ false
+    ∷ []
+
+abbrev pub atByteLimits : List Bool
+atByteLimits =
     -- 16 axles, 17 kind, 18 setting, 19 joined, 20 permitted speed
-    ++ ranged 16 1 (0 ∷ 1 ∷ 24 ∷ 25 ∷ [])
+    ranged 16 1 (0 ∷ 1 ∷ 24 ∷ 25 ∷ [])
     ++ ranged 17 1 (0 ∷ 2 ∷ 3 ∷ [])
     ++ ranged 18 1 (0 ∷ 3 ∷ 4 ∷ [])
     ++ ranged 19 1 (0 ∷ 1 ∷ 2 ∷ [])
@@ -47,14 +59,9 @@ atLimits =
     ++ ranged 22 1 (0 ∷ 1 ∷ 2 ∷ [])
     ++ ranged 23 1 (0 ∷ 1 ∷ [])
 
-abbrev pub expected : List Bool
-expected =
+abbrev pub expectedBytes : List Bool
+expectedBytes =
     false ∷ true ∷ true ∷ false
-    ∷ false ∷ true ∷ true ∷ false
-    ∷ true ∷ true ∷ false
-    ∷ true ∷ true ∷ false
-    ∷ false ∷ true ∷ true ∷ false
-    ∷ false ∷ true ∷ true ∷ false
     ∷ true ∷ true ∷ false
     ∷ true ∷ true ∷ false
     ∷ true ∷ true ∷ false
