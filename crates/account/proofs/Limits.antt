@@ -1,6 +1,7 @@
 -- The account held to the page: its ceilings, accounts of lists, their marks, joining and answers, a table and a proof each. Assumes nothing.
 use mathlib.Core.Path.{_≡_, refl}
 use mathlib.Core.List.{map}
+use lib.ListN.{replicate}
 use Rattle.lists.specs.Words.{all}
 use Rattle.lists.specs.Numbers.{littleEndian}
 use Rattle.record.specs.Records.{records}
@@ -9,7 +10,7 @@ use Rattle.account.specs.Accounts.{accountOf}
 use Rattle.account.specs.Ceilings.{within}
 use Rattle.account.specs.Joining.{joining}
 use Rattle.account.specs.Portions.{portionRefusals, joinRefusals}
-use Rattle.account.specs.Limits.{atLimits, expected, lists, accounts, marks, marked, together, joinedFigures, runs, runsJoined, behinds, behindsJoined, fives, fivesJoined, answers, answered}
+use Rattle.account.specs.Limits.{atLimits, expected, lists, accounts, marks, marked, together, joinedFigures, runs, runsJoined, behinds, behindsJoined, fives, fivesJoined, none, refusedAccounts, answers, answered}
 
 pub limits : atLimits ≡ expected
 unfolding within all
@@ -43,3 +44,7 @@ five-joined = refl
 pub answers-given : answers ≡ answered
 unfolding portionRefusals joinRefusals joining within all records good vehicle littleEndian
 answers-given = refl
+
+pub empty-on-refusal : refusedAccounts ≡ replicate 5 none
+unfolding portionRefusals joinRefusals joining accountOf within all records good vehicle littleEndian
+empty-on-refusal = refl

@@ -111,8 +111,9 @@ lists =
     ∷ [])
     ∷ []
 
-abbrev pub accounts : List Account
-accounts =
+-- the empty account has 200 as its slowest speed, and 4 where there is no setting
+abbrev pub none : Account
+none =
     record {
       count = 0;
       mass = 0;
@@ -139,6 +140,10 @@ accounts =
       wagonvmass = 0;
       enginenotm = false;
     }
+
+abbrev pub accounts : List Account
+accounts =
+    none
     ∷ record {
       count = 4;
       mass = 2531;
@@ -421,6 +426,16 @@ fivesJoined =
 -- ---- answers: number and place
 abbrev answerOf : Accounted → ℕ × ℕ
 answerOf r = (numberOf (r .answer), placeOf (r .answer))
+
+-- 1, 2, 3 of a portion, 7 and 2 of joining: a refusal returns the empty account
+abbrev pub refusedAccounts : List Account
+refusedAccounts =
+    accounted (replicate 23 0) .account
+    ∷ accounted (replicate 4824 0) .account
+    ∷ accounted (replicate 24 0) .account
+    ∷ joined (alone 0 201) (alone 0 0) .account
+    ∷ joined (alone 0 150) (alone 0 51) .account
+    ∷ []
 
 abbrev pub answers : List (ℕ × ℕ)
 answers =

@@ -3,8 +3,9 @@ use Prim.Native.Nat.{ℕ}
 use mathlib.Core.Bool.{Bool, true, false}
 use mathlib.Core.List.{List, [], _∷_}
 
+-- 125 closes with nine zeros before it and not alone, 180 the other way
 abbrev pub numbers : List ℕ
-numbers = 218124712172 ∷ 218124712173 ∷ 218124712174 ∷ 17 ∷ 18 ∷ 19 ∷ 999999999990 ∷ 999999999991 ∷ 999999999992 ∷ []
+numbers = 218124712172 ∷ 218124712173 ∷ 218124712174 ∷ 17 ∷ 18 ∷ 19 ∷ 999999999990 ∷ 999999999991 ∷ 999999999992 ∷ 125 ∷ 180 ∷ []
 
 abbrev pub expected : List Bool
-expected = false ∷ true ∷ false ∷ false ∷ true ∷ false ∷ false ∷ true ∷ false ∷ []
+expected = false ∷ true ∷ false ∷ false ∷ true ∷ false ∷ false ∷ true ∷ false ∷ true ∷ false ∷ []
