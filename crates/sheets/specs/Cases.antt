@@ -92,6 +92,10 @@ wagonA v = vehicle 0 600 v 500 150 2 120
 abbrev wagonE : ℕ → ℕ → Vehicle
 wagonE length setting = vehicle 0 600 500 500 length setting 120
 
+-- a hauled engine, A's set to V, by its length
+abbrev hauledEngineE : ℕ → Vehicle
+hauledEngineE length = vehicle 1 900 1000 800 length 2 140
+
 abbrev wagonF : ℕ → Vehicle
 wagonF mass = vehicle 0 mass 2500 500 150 2 120
 
@@ -150,6 +154,10 @@ shown =
     ++ kBoth (wagonE 200 2 ∷ replicate 5 (wagonE 1000 2))
     ++ kBoth (wagonE 201 2 ∷ replicate 5 (wagonE 1000 2))
     ++ kBoth (replicate 7 (wagonE 1000 2))
+    -- and beside 5,000 set to V a hauled engine of 1 set to V, a wagon of 400 set to M, one set to R
+    ++ kBoth (hauledEngineE 1 ∷ replicate 5 (wagonE 1000 2))
+    ++ kBoth (wagonE 400 1 ∷ replicate 5 (wagonE 1000 2))
+    ++ kBoth (wagonE 400 3 ∷ replicate 5 (wagonE 1000 2))
     -- F: hauled 8,000 with the engine in V, and 8,001
     ++ (broken 1 (replicate 10 (wagonF 800))
     ∷ broken 1 (wagonF 801 ∷ replicate 9 (wagonF 800))
@@ -185,6 +193,9 @@ expected =
     ∷ number 1 ∷ number 1
     ∷ number 2 ∷ number 2
     ∷ number 10 ∷ number 10
+    ∷ number 1 ∷ number 1
+    ∷ number 0 ∷ number 0
+    ∷ number 0 ∷ number 0
     ∷ number 0
     ∷ number 42
     ∷ number 0

@@ -42,6 +42,9 @@ inM = 1
 abbrev inV : ℕ
 inV = 2
 
+abbrev inR : ℕ
+inR = 3
+
 -- kind, mass, V, M, length, setting, joined, speed, D load; 4 axles; the number, here 18 for each, is read by no rule and stands on no sheet
 abbrev vehicle : ℕ → ℕ → ℕ → ℕ → ℕ → ℕ → ℕ → ℕ → ℕ → Vehicle
 vehicle kind mass v m length setting joined speed dload =
@@ -171,6 +174,10 @@ shown =
     ∷ judged order (e inM ∷ replicate 5 (wa inM) ++ wc inM ∷ replicate 4 (wc inV))
     -- 41c: B, fifth hauled set to V, V mass 0
     ∷ judged order (e inM ∷ replicate 4 (wa inM) ++ wagon 600 0 800 inV ∷ replicate 5 (wc inV))
+    -- long (1403.2): not B with its third hauled set to R, but with its sixth; nor B with a second working engine, set to V
+    ∷ judged order (e inM ∷ wa inM ∷ wa inM ∷ wa inR ∷ wa inM ∷ wa inM ∷ replicate 5 (wc inV))
+    ∷ judged order (e inM ∷ replicate 5 (wa inM) ++ wc inR ∷ replicate 4 (wc inV))
+    ∷ judged order (e inM ∷ e inV ∷ replicate 5 (wa inM) ++ replicate 5 (wc inV))
     -- 42a: B, first hauled isolated
     ∷ judged order (e inM ∷ wa isolated ∷ replicate 4 (wa inM) ++ replicate 5 (wc inV))
     -- 42b: B, last hauled isolated
@@ -253,6 +260,10 @@ expected =
     ∷ line (74 ∷ 74 ∷ 74 ∷ 0 ∷ 0 ∷ 0 ∷ []) 1 4 100 97 (pos 652800) 1 8325
     -- 41c
     ∷ line (74 ∷ 74 ∷ 74 ∷ 0 ∷ 0 ∷ 0 ∷ []) 1 4 100 97 (pos 242800) 0 7300
+    -- long
+    ∷ line (74 ∷ 74 ∷ 74 ∷ 0 ∷ 0 ∷ 0 ∷ []) 1 4 100 97 (pos 242800) 0 7300
+    ∷ line (0 ∷ 0 ∷ 0 ∷ 0 ∷ 0 ∷ 0 ∷ []) 1 1 140 97 (pos 532800) 1 8025
+    ∷ line (74 ∷ 74 ∷ 74 ∷ 62 ∷ 62 ∷ 62 ∷ []) 1 0 0 97 (pos 743600) 0 9425
     -- 42a
     ∷ line (75 ∷ 75 ∷ 75 ∷ 85 ∷ 85 ∷ 85 ∷ []) 1 0 0 97 (pos 242800) 1 7300
     -- 42b
