@@ -17,6 +17,7 @@ use Rattle.account.specs.Groupings.{Grouping, uncut, BetweenRecords, GoodPortio
 use Rattle.account.specs.declared.Accounted.{Accounted}
 use Rattle.account.specs.declared.Answer.the-variants.{Done}
 use Rattle.facts.specs.Engines.{GoodEngines}
+use Rattle.speed.specs.Speed.{holdsTheSpeed}
 use Rattle.judge.specs.Answers.{numberOf, placeOf, trainAnswer, trainSheet, accountAnswer, accountSheet}
 use Rattle.judge.specs.declared.Answer.{Answer}
 use Rattle.route.specs.Answers.{trainRoute, trainSpeeds, accountRoute, accountSpeeds}
@@ -135,3 +136,8 @@ module _ (g : Grouping ℕ) (cut : BetweenRecords g) (good : GoodPortion (uncut 
 -- ---- the vehicle that holds the speed
 pub twenty-four-or-none : (front back : List ℕ) (room : ℕ) → (length (lentVehicle front back room) ≡ 24) ⊎ (lentVehicle front back room ≡ [])
 twenty-four-or-none = lent-or-none
+
+-- 24 bytes are room enough for it, and 23 are not
+pub room-of-24 : (front back : List ℕ) → (lentVehicle front back 24 ≡ holdsTheSpeed front back) × (lentVehicle front back 23 ≡ [])
+unfolding lentVehicle
+room-of-24 front back = (refl, refl)
