@@ -6,14 +6,13 @@ use mathlib.Core.Path.{_≡_, refl, sym, ap, ap₂, _∙_}
 use mathlib.Core.Bool.{Bool, true, false, not, _&&_, _||_, cond}
 use mathlib.Core.List.{List, [], _∷_, reverse}
 use lib.ListN.{length}
-use borrow.Author.Tests.{eq-eqb, ne-eqb, lt-ltb, le-ltb}
-use Rattle.lists.specs.Words.{_is_, _above_, all, Every}
+use borrow.Author.Tests.{lt-ltb, le-ltb}
+use Rattle.lists.specs.Words.{_is_, _above_, all}
 use Rattle.lists.specs.Figures.{count, some}
-use Rattle.record.specs.Vehicles.{isWagon, isHauledEngine, isIsolated, isM}
+use Rattle.record.specs.Vehicles.{isHauledEngine, isIsolated, isM}
 use Rattle.record.specs.declared.vehicle.Vehicle.{Vehicle}
 use Rattle.lists.proofs.Figures.{first-leading, some-firsts, some-after}
 use Rattle.account.specs.Accounts.{accountOf}
-use Rattle.account.specs.Groupings.{Hauled}
 use Rattle.facts.specs.Engines.{enginesOf}
 use Rattle.facts.specs.Readings.{firstIsolated, firstIsolatedBy, lastIsolated, lastIsolatedBy, firstFiveV, firstFiveVBy, afterFifthM, afterFifthMBy, isLong, isLongBy, fewWagons, fewWagonsBy}
 
@@ -49,14 +48,14 @@ unfolding accountOf enginesOf
 long-agrees working hauled =
     ap₂ (λ (x y : Bool). x && not y) (all-some isM working) (some-firsts (λ s. s is 2 || s is 3) (λ (v : Vehicle). v .setting) 4 refl 5 hauled)
 
--- what is hauled is a wagon or a hauled engine
-kinds : (hauled : List Vehicle) → Every Hauled hauled → length hauled ≡ count isHauledEngine hauled + count isWagon hauled
-kinds [] each = refl
-kinds (v ∷ hauled) each = go (decLe (v .kind) 0) (kinds hauled (each .1))
+-- every vehicle is a hauled engine or is none
+engines-or-not : (p : Vehicle → Bool) (xs : List Vehicle) → length xs ≡ count p xs + count (λ v. not (p v)) xs
+engines-or-not p [] = refl
+engines-or-not p (v ∷ xs) = go (p v) (engines-or-not p xs)
   where
-    go : Dec (v .kind ≤ 0) → length hauled ≡ count isHauledEngine hauled + count isWagon hauled → suc (length hauled) ≡ count isHauledEngine (v ∷ hauled) + count isWagon (v ∷ hauled)
-    go (yes h) e = rw (eq-eqb (v .kind) 0 (omega arith), ne-eqb (v .kind) 1 (λ z. omega arith)) (omega arith)
-    go (no h) e = rw (ne-eqb (v .kind) 0 (λ z. omega arith), eq-eqb (v .kind) 1 (omega (arith, each .0))) (omega arith)
+    go : (b : Bool) → length xs ≡ count p xs + count (λ v. not (p v)) xs → suc (length xs) ≡ (cond b 1 0 + count p xs) + (cond (not b) 1 0 + count (λ v. not (p v)) xs)
+    go true e = omega (arith, e)
+    go false e = omega (arith, e)
 
 few : (n e w : ℕ) → n ≡ e + w → (2 above w) ≡ (e + 2 above n)
 few n e w q = go (decLe 2 w)
@@ -65,6 +64,6 @@ few n e w q = go (decLe 2 w)
     go (yes h) = le-ltb w 2 h ∙ sym (le-ltb n (e + 2) (omega arith))
     go (no h) = lt-ltb w 2 (omega arith) ∙ sym (lt-ltb n (e + 2) (omega arith))
 
-pub rule-67 : (hauled : List Vehicle) → Every Hauled hauled → fewWagons hauled ≡ fewWagonsBy (accountOf hauled)
+pub rule-67 : (hauled : List Vehicle) → fewWagons hauled ≡ fewWagonsBy (accountOf hauled)
 unfolding accountOf
-rule-67 hauled each = few (length hauled) (count isHauledEngine hauled) (count isWagon hauled) (kinds hauled each)
+rule-67 hauled = few (length hauled) (count isHauledEngine hauled) (count (λ v. not (isHauledEngine v)) hauled) (engines-or-not isHauledEngine hauled)

@@ -12,7 +12,6 @@ use Rattle.record.specs.Vehicles.{isWagon, isHauledEngine, isWorking, isIsolate
 use Rattle.record.specs.declared.vehicle.Vehicle.{Vehicle}
 use Rattle.lists.specs.Figures.{sum, count, some, firstIs, longest, behind, least}
 use Rattle.account.specs.Accounts.{accountOf}
-use Rattle.account.specs.Groupings.{Hauled}
 use Rattle.facts.specs.Readings.{firstIsolated, lastIsolated, firstFiveV, afterFifthM, isLong, fewWagons}
 use Rattle.lists.proofs.Lists.{every-map}
 use Rattle.lists.proofs.Figures.{sum-append, count-append, some-append, least-append, behind-append, some-count, leading-parted, each-none}
@@ -66,9 +65,9 @@ module _ (working hauled : List Vehicle) (w : Every Working working) (first : fi
       ∙ ap (λ (b : Bool). b || some (λ v. isWagon v && hasMatrossow v && not (isIsolated v)) hauled)
       (none (λ v. isWagon v && hasMatrossow v && not (isIsolated v)) (λ v k. ap (λ (b : Bool). b && hasMatrossow v && not (isIsolated v)) (not-wagon v k)) working w)
 
-  pub facts-same : Every Hauled hauled → factsOf (working ++ hauled) ≡ factsBeside working (accountOf hauled)
+  pub facts-same : factsOf (working ++ hauled) ≡ factsBeside working (accountOf hauled)
   unfolding factsOf besideOf enginesOf accountOf
-  facts-same each =
+  facts-same =
       λ i.
       record {
         hauledMass = sum (λ v. v .mass) (rest-is i);
@@ -99,7 +98,7 @@ module _ (working hauled : List Vehicle) (w : Every Working working) (first : fi
         wagonsVMass = sum (λ v. cond (isWagon v && isM v) (v .vmass) 0) (rest-is i);
         hauledEngineNotM = some (λ v. isHauledEngine v && not (isM v)) (rest-is i);
         long = (ap₂ isLong engines-are rest-is ∙ long-agrees working hauled) i;
-        fewWagons = (ap fewWagons rest-is ∙ rule-67 hauled each) i;
+        fewWagons = (ap fewWagons rest-is ∙ rule-67 hauled) i;
         slowestHauled = least 200 (λ v. v .speed) (rest-is i);
         slowestWorking = least 200 (λ v. v .speed) (engines-are i);
       }

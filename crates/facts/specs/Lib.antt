@@ -2,3 +2,4 @@ pub mod Readings
 pub mod Engines
 pub mod Facts
 pub mod Named
+pub mod Cases

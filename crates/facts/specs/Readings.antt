@@ -4,7 +4,7 @@ use mathlib.Core.Bool.{Bool, not, _&&_, _||_}
 use mathlib.Core.List.{List}
 use lib.ListN.{take, drop}
 use Rattle.lists.specs.Words.{_is_, _above_, all}
-use Rattle.record.specs.Vehicles.{isWagon, isIsolated, isM, isV, isR}
+use Rattle.record.specs.Vehicles.{isHauledEngine, isIsolated, isM, isV, isR}
 use Rattle.record.specs.declared.vehicle.Vehicle.{Vehicle}
 use Rattle.lists.specs.Figures.{count, some, firstIs, lastIs}
 use Rattle.account.specs.declared.Account.{Account}
@@ -45,9 +45,9 @@ isLong working hauled = all isM working && not (some (λ v. isV v || isR v) (tak
 abbrev pub isLongBy : Engines → Account → Bool
 isLongBy e a = not (e .notm) && not (some (λ s. s is 2 || s is 3) (a .first))
 
--- in 67: fewer than 2 wagons
+-- in 67: fewer than 2 wagons, what is hauled and no hauled engine being one
 abbrev pub fewWagons : List Vehicle → Bool
-fewWagons hauled = 2 above count isWagon hauled
+fewWagons hauled = 2 above count (λ v. not (isHauledEngine v)) hauled
 
 abbrev pub fewWagonsBy : Account → Bool
 fewWagonsBy a = a .engines + 2 above a .count

@@ -111,5 +111,5 @@ module _ (engines hauled : List ℕ) (lent : List (Case Answer)) (e : GoodEngine
   pub facts-joint : factsBeside (vehicles engines) (accounted hauled .account) ≡ factsOf (vehicles (engines ++ hauled))
   facts-joint =
       ap (factsBeside (vehicles engines)) account-is
-      ∙ sym (facts-agree (vehicles engines) (vehicles hauled) each-working first-hauled (s .hauled))
+      ∙ sym (facts-agree (vehicles engines) (vehicles hauled) each-working first-hauled)
       ∙ ap factsOf (sym train)

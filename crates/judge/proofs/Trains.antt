@@ -175,8 +175,7 @@ module _ (bs : List ℕ) (n : ℕ) (count : n ≡ leading isWorking (vehicles bs
               ap (λ (r : Accounted). factsBeside (vehicles (take (24 * n) bs)) (r .account)) (rear-done none-behind)
               ∙ sym (facts-agree (vehicles (take (24 * n) bs)) (vehicles (drop (24 * n) bs))
               (subst (λ (xs : List Vehicle). Every Working xs) working-is (working-each (workingOf (vehicles bs)) (leading-each isWorking (vehicles bs))))
-              (none-first isWorking (vehicles (drop (24 * n) bs)) none-behind)
-              (every-map GoodHauled Hauled (λ v g. g .hauled) (vehicles (drop (24 * n) bs)) (hauled-each (recordsOf (drop (24 * n) bs)) (parts-fine .1) none-behind)))
+              (none-first isWorking (vehicles (drop (24 * n) bs)) none-behind))
               ∙ ap factsOf (sym parted)
 
 -- ---- a train of good records as the code parts it: n working engines, part the account of the rest, flag whether that was refused
