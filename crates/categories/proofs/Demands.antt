@@ -1,19 +1,26 @@
 -- The categories: the theorems, over the definitions of specs/. Assumes nothing.
 use Prim.Native.Nat.{ℕ, suc, _≤_}
 use native.Mathlib.Omega.{arith}
-use mathlib.Core.Path.{_≡_, refl}
+use mathlib.Core.Path.{_≡_, refl, sym, ap, _∙_}
 use mathlib.Core.Bool.{Bool, true, false, cond}
-use mathlib.Core.List.{List, [], _∷_, map}
+use mathlib.Core.List.{List, [], _∷_, _++_, map}
 use lib.ListN.{drop}
-use Rattle.lists.specs.Words.{_atMost_}
+use Rattle.lists.specs.Words.{_atMost_, Every}
+use Rattle.lists.specs.Figures.{some, firstIs}
+use Rattle.lists.proofs.Lists.{every-append, every-left, every-right}
+use Rattle.lists.proofs.Figures.{none-first}
 use lib.Signed.{_≤ℤ_}
+use Rattle.record.specs.Vehicles.{isWorking, isV}
 use Rattle.record.specs.declared.vehicle.Vehicle.{Vehicle}
-use Rattle.facts.specs.Facts.{factsOf}
+use Rattle.account.specs.Accounts.{accountOf}
+use Rattle.account.specs.Groupings.{Hauled}
+use Rattle.account.proofs.Demands.{hauled-not-working, v-length-kept}
+use Rattle.facts.specs.Facts.{Working, factsOf, besideOf, factsBeside}
 use Rattle.facts.specs.declared.Facts.{Facts}
-use Rattle.facts.proofs.Demands.{v-length-within}
+use Rattle.facts.proofs.Demands.{v-length-within, v-length-beside, facts-agree}
 use Rattle.order.specs.declared.Order.{Order}
 use Rattle.categories.specs.Categories.{crossRows, domesticRows, same, firstPresent, stepped, speedOf}
-use Rattle.categories.specs.Brakes.{deductionOf, marginFor}
+use Rattle.categories.specs.Brakes.{deductionBy, deductionOf, marginFor}
 use Rattle.categories.specs.WholeLength.{wholeDeductionOf, wholeMarginFor}
 use Rattle.categories.specs.declared.category.Category.{Category}
 use Rattle.categories.specs.declared.category.Weigh.{Weigh}
@@ -63,3 +70,29 @@ train-k-not-grown w train = deductions.k-not-grown w (factsOf train) (v-length-w
 
 pub train-margin-not-less : (c : Category) (train : List Vehicle) (o : Order) → wholeMarginFor c (factsOf train) o ≤ℤ marginFor c (factsOf train) o
 train-margin-not-less c train o = deductions.margin-not-less c (factsOf train) o (v-length-within train)
+
+-- and so of engines with an account that comes from a list
+pub account-k-not-grown : (w : Weigh) (engines hauled : List Vehicle) → deductionOf w (factsBeside engines (accountOf hauled)) ≤ wholeDeductionOf w (factsBeside engines (accountOf hauled))
+account-k-not-grown w engines hauled = deductions.k-not-grown w (factsBeside engines (accountOf hauled)) (v-length-beside engines hauled)
+
+pub account-margin-not-less : (c : Category) (engines hauled : List Vehicle) (o : Order) → wholeMarginFor c (factsBeside engines (accountOf hauled)) o ≤ℤ marginFor c (factsBeside engines (accountOf hauled)) o
+account-margin-not-less c engines hauled o = deductions.margin-not-less c (factsBeside engines (accountOf hauled)) o (v-length-beside engines hauled)
+
+-- ---- vehicles of which none is set to V, isolated or in M, put in anywhere among the hauled, leave k as it was
+pub account-k-kept : (w : Weigh) (engines front others back : List Vehicle) → some isV others ≡ false
+    → deductionOf w (factsBeside engines (accountOf (front ++ (others ++ back)))) ≡ deductionOf w (factsBeside engines (accountOf (front ++ back)))
+unfolding besideOf
+account-k-kept w engines front others back none = ap (deductionBy w) (v-length-kept front others back none)
+
+pub train-k-kept : (w : Weigh) (working front others back : List Vehicle) → Every Working working → Every Hauled (front ++ (others ++ back)) → some isV others ≡ false
+    → deductionOf w (factsOf (working ++ (front ++ (others ++ back)))) ≡ deductionOf w (factsOf (working ++ (front ++ back)))
+train-k-kept w working front others back each hauled none =
+    ap (deductionOf w) (facts-agree working (front ++ (others ++ back)) each (first-hauled (front ++ (others ++ back)) hauled))
+    ∙ account-k-kept w working front others back none
+    ∙ ap (deductionOf w) (sym (facts-agree working (front ++ back) each (first-hauled (front ++ back) without)))
+  where
+    first-hauled : (xs : List Vehicle) → Every Hauled xs → firstIs isWorking xs ≡ false
+    first-hauled xs h = none-first isWorking xs (hauled-not-working xs h)
+
+    without : Every Hauled (front ++ back)
+    without = every-append Hauled front back (every-left Hauled front (others ++ back) hauled) (every-right Hauled others back (every-right Hauled front (others ++ back) hauled))
