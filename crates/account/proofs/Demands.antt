@@ -1,6 +1,7 @@
 -- Demand 3, first half, and what else document 01 says of accounts: the theorems, over the definitions of specs/;
 -- `joined-in-code` and `done-in-code` also over the two contracts themselves. Assumes nothing.
 use Prim.Native.Nat.{ℕ, _%_, _≤_}
+use native.Mathlib.Omega.{arith}
 use mathlib.Core.Path.{_≡_, refl, sym, ap, _∙_}
 use mathlib.Core.Logic.{_⊎_}
 use mathlib.Core.Bool.{Bool, true, false, cond}
@@ -11,9 +12,10 @@ use Rattle.lists.specs.Words.{all, leading, Every, Case, caseAt, First}
 use Rattle.lists.specs.Figures.{some}
 use Rattle.record.specs.Records.{recordCount, records, recordsOf, isWhole}
 use Rattle.record.specs.Vehicles.{good, vehicle, vehicles, firstBad, foundNumber, foundPlace, isWorking, isV}
+use Rattle.record.specs.Mistyped.{Mistyped}
 use Rattle.record.specs.declared.vehicle.Vehicle.{Vehicle}
 use Rattle.lists.proofs.Cases.{first-applies, none-applies, first-or-none}
-use Rattle.record.proofs.Demands.{found-number, found-place}
+use Rattle.record.proofs.Demands.{found-number, found-place, mistyped-some, mistyped-place}
 use Rattle.account.specs.Accounts.{accountOf, empty, sums}
 use Rattle.account.specs.Ceilings.{_upTo_, figures, within, Within}
 use Rattle.account.specs.Joining.{joining}
@@ -23,7 +25,7 @@ use Rattle.account.specs.Groupings.{Hauled, GoodHauled, Portion, GoodPor
 use Rattle.account.specs.declared.Account.{Account}
 use Rattle.account.specs.declared.Accounted.{Accounted}
 use Rattle.account.specs.declared.Answer.{Answer}
-use Rattle.account.specs.declared.Answer.the-variants.{Done}
+use Rattle.account.specs.declared.Answer.the-variants.{Done, BadField}
 use Rattle.account.proofs.Ceils as ceils
 use Rattle.account.proofs.Ceils.{test-within, within-test, portion-ceilings}
 use Rattle.account.proofs.Joins as joins
@@ -76,6 +78,11 @@ refused-as-found bs whole few bad =
 -- it is done exactly when it is whole records, at most 200, each good, each hauled; and then it has the account of its vehicles
 pub portion-done-exactly : (bs : List ℕ) → (accounted bs .answer ≡ Done → GoodPortion bs) × (GoodPortion bs → accounted bs ≡ doneWith (accountOf (vehicles bs)))
 portion-done-exactly bs = (λ done. sound-good bs (done-sound bs done), λ g. sound-done bs (good-sound bs g))
+
+-- request Two: with one digit of one number mistyped it is refused by 3, at that record's place, with the empty account
+pub portion-mistyped : (bs other : List ℕ) (i : ℕ) → isWhole bs ≡ true → recordCount bs ≤ 200 → all good (recordsOf bs) ≡ true → Mistyped bs other i → accounted other ≡ refusedBy (BadField i)
+portion-mistyped bs other i whole few g m =
+    sym (answer-3 other (omega (arith, eqb-true (length bs % 24) 0 whole, m .long)) (omega (arith, few, m .long)) i (mistyped-some bs other i m g, mistyped-place bs other i m g))
 
 -- its vehicles are at most 200 good hauled ones
 pub portion-of : (bs : List ℕ) → GoodPortion bs → Portion (vehicles bs)

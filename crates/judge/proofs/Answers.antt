@@ -1,8 +1,9 @@
 -- Laws of the refusals: groups of them one after the other, and what is judged of three groups. Assumes nothing.
-use mathlib.Core.Path.{_≡_, refl, sym, ap, _∙_}
+use mathlib.Core.Path.{_≡_, refl, sym, ap, ap₂, _∙_}
 use mathlib.Core.Bool.{Bool, true, false, not, cond, false≢true}
 use mathlib.Core.List.{List, [], _∷_, _++_}
 use Rattle.lists.specs.Words.{Every, Case, firstOf}
+use Rattle.lists.proofs.Cases.{none-applies}
 use Rattle.facts.specs.declared.Facts.{Facts}
 use Rattle.judge.specs.Answers.{isDone}
 use Rattle.judge.specs.Judging.{Refusing, lentAs, judgedBy}
@@ -56,6 +57,14 @@ around-lent before lent behind n m =
     or-else before (lent ++ behind) n
     ∙ ap (orElse (firstOf Done before)) (or-else lent behind m)
     ∙ sym (around-groups before (firstOf Done lent) behind n)
+
+-- of three groups, where no test of the first holds and the second refuses
+pub lent-refused : (before lent behind : List (Case Answer)) → Refusing before → Refusing lent → Every (λ c. c .applies ≡ false) before → isDone (firstOf Done lent) ≡ false
+    → firstOf Done (before ++ (lent ++ behind)) ≡ firstOf Done lent
+lent-refused before lent behind n m none refused =
+    or-else before (lent ++ behind) n
+    ∙ ap₂ orElse (none-applies Done before none) (or-else lent behind m)
+    ∙ ap (λ (d : Bool). cond d (firstOf Done behind) (firstOf Done lent)) refused
 
 -- where a group is done, no test of it holds
 pub none-of : (cs : List (Case Answer)) → Refusing cs → isDone (firstOf Done cs) ≡ true → Every (λ c. c .applies ≡ false) cs

@@ -9,6 +9,7 @@ use lib.ListN.{length, drop}
 use Rattle.lists.specs.Words.{all, leading, Every, Case, firstOf, caseAt, First}
 use Rattle.record.specs.Records.{recordsOf}
 use Rattle.record.specs.Vehicles.{good, vehicles, isWorking}
+use Rattle.record.specs.Mistyped.{Mistyped}
 use Rattle.record.specs.declared.vehicle.Vehicle.{Vehicle}
 use Rattle.lists.proofs.Cases.{first-applies, none-applies, first-or-none}
 use Rattle.account.specs.Accounts.{accountOf}
@@ -38,10 +39,11 @@ use Rattle.sheets.proofs.Demands.{sheet-kept}
 use Rattle.judge.specs.Answers.{numberOf, placeOf, isDone, orderTests, orderRefusals, recordRefusals, trainShape, trainAround, trainRefusals, trainAnswer, trainSheet, engineRefusals, engineShape, accountAround, accountRefusals, accountAnswer, accountSheet, sheetFor, written}
 use Rattle.judge.specs.Judging.{Refusing, lentAs, trainJudged, accountJudged, judgedBy}
 use Rattle.judge.specs.Shown.{Shows}
+use Rattle.judge.specs.Good.{GoodLent, GoodTrain, GoodWithAccount}
 use Rattle.judge.specs.declared.Answer.{Answer}
-use Rattle.judge.specs.declared.Answer.the-variants.{Done}
+use Rattle.judge.specs.declared.Answer.the-variants.{Done, BadField}
 use Rattle.judge.proofs.Bounds.{bounded-train, bounded-account}
-use Rattle.judge.proofs.Answers.{done-is, all-passed, around-lent, around-groups, none-of}
+use Rattle.judge.proofs.Answers.{done-is, all-passed, around-lent, around-groups, lent-refused, none-of}
 use Rattle.judge.proofs.Engines as engines
 use Rattle.judge.proofs.Engines.{engineAnswer, engines-refusing}
 use Rattle.judge.proofs.Trains as trains
@@ -50,6 +52,8 @@ use Rattle.judge.proofs.Joint.{answers-same, facts-joint}
 use Rattle.judge.proofs.Sheets as sheets
 use Rattle.judge.proofs.Sheets.{sheet-long}
 use Rattle.judge.proofs.Shown.{shows-done}
+use Rattle.judge.proofs.Exactly as exactly
+use Rattle.judge.proofs.Exactly.{train-good, good-train, account-good, good-account}
 
 -- ---- demand 1: every input is answered
 -- the refusals' numbers in document 01's two orders, and their places
@@ -85,6 +89,17 @@ done-only = done-is
 
 pub done-when-none-applies : (rs : List (Case Answer)) → Every (λ r. r .applies ≡ false) rs → firstOf Done rs ≡ Done
 done-when-none-applies = none-applies Done
+
+-- a train is done exactly when it is good and so are the order and the room lent; and so are engines with an account
+pub train-done-exactly : (bs order : List ℕ) (room : ℕ)
+    → (trainAnswer bs order room ≡ Done → GoodTrain bs × GoodLent order room)
+    × (GoodTrain bs → GoodLent order room → trainAnswer bs order room ≡ Done)
+train-done-exactly bs order room = (train-good bs order room, good-train bs order room)
+
+pub account-done-exactly : (bs : List ℕ) (hauled : Account) (order : List ℕ) (room : ℕ)
+    → (accountAnswer bs hauled order room ≡ Done → GoodWithAccount bs hauled × GoodLent order room)
+    × (GoodWithAccount bs hauled → GoodLent order room → accountAnswer bs hauled order room ≡ Done)
+account-done-exactly bs hauled order room = (account-good bs hauled order room, good-account bs hauled order room)
 
 -- what is lent beside a train, answered first and given as one answer, changes nothing
 pub train-judged : (bs : List ℕ) (lent : List (Case Answer)) → Refusing lent → trainJudged bs (firstOf Done lent) ≡ judgedBy (firstOf Done (trainAround bs lent)) (factsOf (vehicles bs))
@@ -127,6 +142,15 @@ account-lent bs hauled lent n d =
     (around-lent (engineRefusals bs hauled) lent (engineShape (vehicles bs) hauled) (engines-refusing bs hauled) n ∙ around-groups (engineRefusals bs hauled) (firstOf Done lent) (engineShape (vehicles bs) hauled) (engines-refusing bs hauled))
     d .1)
 
+-- and where nothing before applies and something of what is lent is refused, that is the answer
+pub train-lent-refused : (bs : List ℕ) (lent : List (Case Answer)) → Refusing lent → Every (λ r. r .applies ≡ false) (recordRefusals bs) → isDone (firstOf Done lent) ≡ false
+    → firstOf Done (trainAround bs lent) ≡ firstOf Done lent
+train-lent-refused bs lent n none refused = lent-refused (recordRefusals bs) lent (trainShape (vehicles bs)) (records-refusing bs) n none refused
+
+pub account-lent-refused : (bs : List ℕ) (hauled : Account) (lent : List (Case Answer)) → Refusing lent → Every (λ r. r .applies ≡ false) (engineRefusals bs hauled) → isDone (firstOf Done lent) ≡ false
+    → firstOf Done (accountAround bs hauled lent) ≡ firstOf Done lent
+account-lent-refused bs hauled lent n none refused = lent-refused (engineRefusals bs hauled) lent (engineShape (vehicles bs) hauled) (engines-refusing bs hauled) n none refused
+
 -- a refused call writes nothing at all; a done call writes its bytes over the first of those lent and no other
 pub refused-unwritten : (answer : Answer) (bytes sheet : List ℕ) → isDone answer ≡ false → written answer bytes sheet ≡ sheet
 refused-unwritten answer bytes sheet e = rw e
@@ -153,6 +177,28 @@ train-refused bs order sheet e = refused-unwritten (trainAnswer bs order (length
 
 pub account-refused : (bs : List ℕ) (hauled : Account) (order sheet : List ℕ) → isDone (accountAnswer bs hauled order (length sheet)) ≡ false → accountSheet bs hauled order sheet ≡ sheet
 account-refused bs hauled order sheet e = refused-unwritten (accountAnswer bs hauled order (length sheet)) (sheetFor (factsBeside (vehicles bs) hauled) (orderOf order)) sheet e
+
+-- request Two: where 1, 2 and 3 do not apply, one digit of one number mistyped is answered 3 at that record's place, whatever is lent beside
+pub train-mistyped : (bs other : List ℕ) (i : ℕ) → Mistyped bs other i → (lent : List (Case Answer)) → Every (λ r. r .applies ≡ false) (recordRefusals bs) → firstOf Done (trainAround other lent) ≡ BadField i
+train-mistyped = exactly.train-mistyped
+
+-- of the working engines in front of an account, where 1, 7, 2 and 3 do not apply
+pub account-mistyped : (bs other : List ℕ) (i : ℕ) → Mistyped bs other i → (hauled : Account) (lent : List (Case Answer)) → Every (λ r. r .applies ≡ false) (engineRefusals bs hauled)
+    → firstOf Done (accountAround other hauled lent) ≡ BadField i
+account-mistyped = exactly.account-mistyped
+
+-- so with any order and room, and nothing is written
+pub train-slip-answered : (bs other : List ℕ) (i : ℕ) → Mistyped bs other i → (order sheet : List ℕ) → Every (λ r. r .applies ≡ false) (recordRefusals bs)
+    → (trainAnswer other order (length sheet) ≡ BadField i) × (trainSheet other order sheet ≡ sheet)
+unfolding trainRefusals
+train-slip-answered bs other i m order sheet none =
+    let a = train-mistyped bs other i m (orderRefusals order (length sheet)) none in (a, train-refused other order sheet (ap isDone a))
+
+pub account-slip-answered : (bs other : List ℕ) (i : ℕ) → Mistyped bs other i → (hauled : Account) (order sheet : List ℕ) → Every (λ r. r .applies ≡ false) (engineRefusals bs hauled)
+    → (accountAnswer other hauled order (length sheet) ≡ BadField i) × (accountSheet other hauled order sheet ≡ sheet)
+unfolding accountRefusals
+account-slip-answered bs other i m hauled order sheet none =
+    let a = account-mistyped bs other i m hauled (orderRefusals order (length sheet)) none in (a, account-refused other hauled order sheet (ap isDone a))
 
 -- ---- demand 2: the sheet that is written is the one the rules give, over the records, and over the figures
 pub train-shows : (bs order sheet : List ℕ) → trainAnswer bs order (length sheet) ≡ Done → Shows (factsOf (vehicles bs)) (orderOf order) (trainSheet bs order sheet)
@@ -217,17 +263,19 @@ pub domestic-percentage : (order : List ℕ) → goodOrder order ≡ true → or
 unfolding percentageOf
 domestic-percentage order good named c f = omega (arith, domestic-german order good named)
 
--- ---- a cross-border order is answered as before request Six, and gives the bytes that it gave
+-- ---- an order that names the cross-border book: the domestic book has no say in what it is answered and given
 module _ (order : List ℕ) (cross : orderOf order .book ≡ CrossBorder) where
-  -- its table and the 32 bytes decide 4 and 5
+  -- 4 by the cross-border table alone, 5 below 32 bytes
   pub cross-order-kept : (room : ℕ) → orderRefusals order room ≡ orderTests (inRanges crossBorderFields order) 32 room
   unfolding goodOrder orderOf
   cross-order-kept room = ap (λ (b : Book). orderTests (inRanges (fieldsOf b) order) (sheetLength b) room) cross
 
+  -- its sheet is by the cross-border book's rules
   pub cross-sheet-kept : (f : Facts) → sheetFor f (orderOf order) ≡ sheetOf crossBorder f (orderOf order)
   unfolding sheetFor bookOf
   cross-sheet-kept f = ap (λ (b : Book). sheetOf (bookOf b) f (orderOf order)) cross
 
+  -- so the whole call, of a train and of engines with an account
   pub cross-train-kept : (bs sheet : List ℕ)
       → trainSheet bs order sheet ≡ written (firstOf Done (trainAround bs (orderTests (inRanges crossBorderFields order) 32 (length sheet)))) (sheetOf crossBorder (factsOf (vehicles bs)) (orderOf order)) sheet
   unfolding trainRefusals

@@ -4,6 +4,7 @@ pub mod Trains
 pub mod Sheets
 pub mod Bounds
 pub mod Shown
+pub mod Exactly
 pub mod Joint
 pub mod Unique
 pub mod Demands

@@ -2,13 +2,14 @@
 use Prim.Native.Nat.{ℕ, _≤_, _<_}
 use native.Mathlib.Omega.{arith}
 use mathlib.Core.Path.{_≡_, refl, sym, ap, ap₂, _∙_}
-use mathlib.Core.Bool.{Bool, true, false, not, _&&_}
+use mathlib.Core.Bool.{Bool, true, false, not, _&&_, cond}
 use mathlib.Core.List.{List, [], _∷_, _++_, map}
 use borrow.Author.Tests.{lt-ltb}
 use lib.ListN.{length, take, drop, getD, replicate}
 use Rattle.lists.specs.Words.{_is_, _above_, all, leading, Every, Case, firstOf, caseAt}
 use Rattle.record.specs.Records.{recordCount, recordsOf}
 use Rattle.record.specs.Vehicles.{good, vehicles, isWorking}
+use Rattle.record.specs.Mistyped.{Mistyped}
 use Rattle.record.specs.declared.vehicle.Vehicle.{Vehicle}
 use Rattle.account.specs.Accounts.{accountOf}
 use Rattle.account.specs.Portions.{accounted}
@@ -35,10 +36,10 @@ use Rattle.sections.specs.Routes.{bookOn, grantedOn, speedsOn}
 use Rattle.sections.specs.Sections.{sectionsOf, askedIn, bookNamedIn, goodSection, leadingGood}
 use Rattle.sections.proofs.Demands.{sections-count, first-bad-section, cross-section-kept}
 use Rattle.sheets.specs.Sheets.{sheetLength}
-use Rattle.judge.specs.Answers.{numberOf, placeOf, refusal, isDone, orderRefusals, trainAround, accountAround, written}
+use Rattle.judge.specs.Answers.{numberOf, placeOf, refusal, isDone, orderRefusals, recordRefusals, engineRefusals, trainAround, accountAround, written}
 use Rattle.judge.specs.Answers as of-sheets
 use Rattle.judge.specs.declared.Answer.{Answer}
-use Rattle.judge.specs.declared.Answer.the-variants.{Done, BadOrder, ShortSheet}
+use Rattle.judge.specs.declared.Answer.the-variants.{Done, BadField, BadOrder, ShortSheet}
 use Rattle.judge.proofs.Demands as judge
 use Rattle.route.specs.Answers.{noRoute, sectionRefusals, trainRefusals, accountRefusals, grantedFor, speedsFor, routeBy, trainAnswer, trainRoute, trainSpeeds, accountAnswer, accountRoute, accountSpeeds}
 use Rattle.route.specs.Shown.{Shows}
@@ -89,6 +90,44 @@ pub bad-section : (orders : List ℕ) (room i : ℕ) → i < recordCount orders 
 bad-section orders room i h before bad =
     let place = first-bad-section orders i h before bad in
     ap₂ (λ (k : ℕ) (b : Bool). refusal (BadOrder k) b) place (sym (some-bad orders i (sym place)) ∙ lt-ltb i (recordCount orders) h)
+
+-- so where none of 1, 2, 3 (of engines with an account 1, 7, 2, 3) applies and there are 1 to 64 whole orders, a route whose first bad section is i is answered 4 with place i, category 0, and the bytes lent are as they were
+module _ (orders speeds : List ℕ) (i : ℕ) (counted : noRoute orders ≡ false) (h : i < recordCount orders) (before : all (goodSection (askedIn orders) (bookNamedIn orders)) (take i (recordsOf orders)) ≡ true)
+    (bad : goodSection (askedIn orders) (bookNamedIn orders) (getD (recordsOf orders) i []) ≡ false) where
+  -- the second of the orders' refusals
+  refused-there : firstOf Done (sectionRefusals orders (length speeds)) ≡ BadOrder i
+  refused-there =
+      ap₂ (λ (b : Bool) (c : Case Answer). cond b (BadOrder 0) (cond (c .applies) (c .gives) (firstOf Done (refusal ShortSheet (recordCount orders above length speeds) ∷ []))))
+      counted (bad-section orders (length speeds) i h before bad)
+
+  pub train-bad-section : (bs : List ℕ) → Every (λ r. r .applies ≡ false) (recordRefusals bs)
+      → (trainRoute bs orders (length speeds) ≡ record { answer = BadOrder i; granted = 0 }) × (trainSpeeds bs orders speeds ≡ speeds)
+  unfolding trainRefusals
+  train-bad-section bs none =
+      let a = judge.train-lent-refused bs (sectionRefusals orders (length speeds)) (sections-refusing orders (length speeds)) none (ap isDone refused-there) ∙ refused-there in
+      (ap (λ (x : Answer). routeBy x (grantedFor (factsOf (vehicles bs)) orders)) a, train-refused bs orders speeds (ap isDone a) .1)
+
+  pub account-bad-section : (bs : List ℕ) (hauled : Account) → Every (λ r. r .applies ≡ false) (engineRefusals bs hauled)
+      → (accountRoute bs hauled orders (length speeds) ≡ record { answer = BadOrder i; granted = 0 }) × (accountSpeeds bs hauled orders speeds ≡ speeds)
+  unfolding accountRefusals
+  account-bad-section bs hauled none =
+      let a = judge.account-lent-refused bs hauled (sectionRefusals orders (length speeds)) (sections-refusing orders (length speeds)) none (ap isDone refused-there) ∙ refused-there in
+      (ap (λ (x : Answer). routeBy x (grantedFor (factsBeside (vehicles bs) hauled) orders)) a, account-refused bs hauled orders speeds (ap isDone a) .1)
+
+-- request Two: where nothing before 4 applies, one digit of one number mistyped is answered 3 at that record's place, whatever the orders, with category 0, and the bytes lent are as they were
+pub train-slip-answered : (bs other : List ℕ) (i : ℕ) → Mistyped bs other i → (orders speeds : List ℕ) → Every (λ r. r .applies ≡ false) (recordRefusals bs)
+    → (trainRoute other orders (length speeds) ≡ record { answer = BadField i; granted = 0 }) × (trainSpeeds other orders speeds ≡ speeds)
+unfolding trainRefusals
+train-slip-answered bs other i m orders speeds none =
+    let a = judge.train-mistyped bs other i m (sectionRefusals orders (length speeds)) none in
+    (ap (λ (x : Answer). routeBy x (grantedFor (factsOf (vehicles other)) orders)) a, train-refused other orders speeds (ap isDone a) .1)
+
+pub account-slip-answered : (bs other : List ℕ) (i : ℕ) → Mistyped bs other i → (hauled : Account) (orders speeds : List ℕ) → Every (λ r. r .applies ≡ false) (engineRefusals bs hauled)
+    → (accountRoute other hauled orders (length speeds) ≡ record { answer = BadField i; granted = 0 }) × (accountSpeeds other hauled orders speeds ≡ speeds)
+unfolding accountRefusals
+account-slip-answered bs other i m hauled orders speeds none =
+    let a = judge.account-mistyped bs other i m hauled (sectionRefusals orders (length speeds)) none in
+    (ap (λ (x : Answer). routeBy x (grantedFor (factsBeside (vehicles other) hauled) orders)) a, account-refused other hauled orders speeds (ap isDone a) .1)
 
 -- 4 at 0, 1, 64 and 65 sections and for 25 bytes, and 5 for two sections with room for one and for two
 pub section-limits :
@@ -227,12 +266,13 @@ module _ (engines : List ℕ) (g : Grouping ℕ) (orders speeds : List ℕ) (e :
       let s = route-from-account (ap (λ (r : Accounted). r .answer) (portion-done-exactly (uncut g) .1 good)) in
       (d .0, ap (λ (r : Accounted). r .account) (d .1), s .0, s .1)
 
--- ---- a route whose first section names the cross-border book gives what it gave before request Six
+-- ---- a route whose first section names the cross-border book: the domestic book has no say in what it is answered and given
 module _ (orders : List ℕ) (cross : bookOn (sectionsOf orders) ≡ CrossBorder) where
-  -- what was refused of its sections: 4, and 4 with its place, by the one table and the asked category, and 5
-  abbrev formerSection : List ℕ → Bool
-  formerSection r = inRanges crossBorderFields r && orderOf r .asked is askedIn orders
+  -- a section is good by the cross-border table and the asked category alone
+  abbrev crossSection : List ℕ → Bool
+  crossSection r = inRanges crossBorderFields r && orderOf r .asked is askedIn orders
 
+  -- 4, and 4 with its place, by such a test of a section, and 5
   abbrev refusedBy : (List ℕ → Bool) → ℕ → List (Case Answer)
   refusedBy good room =
       refusal (BadOrder 0) (noRoute orders)
@@ -240,10 +280,11 @@ module _ (orders : List ℕ) (cross : bookOn (sectionsOf orders) ≡ CrossBorder
       ∷ refusal ShortSheet (recordCount orders above room)
       ∷ []
 
-  pub cross-refusals-kept : (room : ℕ) → sectionRefusals orders room ≡ refusedBy formerSection room
+  -- a section that names the other book fails its table, so that the book need not be asked
+  pub cross-refusals-kept : (room : ℕ) → sectionRefusals orders room ≡ refusedBy crossSection room
   cross-refusals-kept room = ap (λ (good : List ℕ → Bool). refusedBy good room) (ap (goodSection (askedIn orders)) cross ∙ (λ i r. cross-section-kept (askedIn orders) r i))
 
-  -- the category granted, and the sections' bytes
+  -- the category granted, and the sections' bytes, by the cross-border book's rules
   pub cross-granted-kept : (f : Facts) → grantedFor f orders ≡ grantedOn crossBorder f (sectionsOf orders) .number
   unfolding grantedFor bookOf
   cross-granted-kept f = ap (λ (b : Book). grantedOn (bookOf b) f (sectionsOf orders) .number) cross
@@ -254,9 +295,9 @@ module _ (orders : List ℕ) (cross : bookOn (sectionsOf orders) ≡ CrossBorder
 
   -- so the whole call, of a train and of engines with an account
   pub cross-train-kept : (bs speeds : List ℕ)
-      → (trainRoute bs orders (length speeds) ≡ routeBy (firstOf Done (trainAround bs (refusedBy formerSection (length speeds)))) (grantedOn crossBorder (factsOf (vehicles bs)) (sectionsOf orders) .number))
+      → (trainRoute bs orders (length speeds) ≡ routeBy (firstOf Done (trainAround bs (refusedBy crossSection (length speeds)))) (grantedOn crossBorder (factsOf (vehicles bs)) (sectionsOf orders) .number))
       × (trainSpeeds bs orders speeds
-      ≡ written (firstOf Done (trainAround bs (refusedBy formerSection (length speeds)))) (speedsOn crossBorder (grantedOn crossBorder (factsOf (vehicles bs)) (sectionsOf orders) .number) (factsOf (vehicles bs)) (sectionsOf orders)) speeds)
+      ≡ written (firstOf Done (trainAround bs (refusedBy crossSection (length speeds)))) (speedsOn crossBorder (grantedOn crossBorder (factsOf (vehicles bs)) (sectionsOf orders) .number) (factsOf (vehicles bs)) (sectionsOf orders)) speeds)
   unfolding trainRefusals
   cross-train-kept bs speeds =
       let f = factsOf (vehicles bs) in
@@ -265,9 +306,9 @@ module _ (orders : List ℕ) (cross : bookOn (sectionsOf orders) ≡ CrossBorder
 
   pub cross-account-kept : (bs : List ℕ) (hauled : Account) (speeds : List ℕ)
       → (accountRoute bs hauled orders (length speeds)
-      ≡ routeBy (firstOf Done (accountAround bs hauled (refusedBy formerSection (length speeds)))) (grantedOn crossBorder (factsBeside (vehicles bs) hauled) (sectionsOf orders) .number))
+      ≡ routeBy (firstOf Done (accountAround bs hauled (refusedBy crossSection (length speeds)))) (grantedOn crossBorder (factsBeside (vehicles bs) hauled) (sectionsOf orders) .number))
       × (accountSpeeds bs hauled orders speeds
-      ≡ written (firstOf Done (accountAround bs hauled (refusedBy formerSection (length speeds))))
+      ≡ written (firstOf Done (accountAround bs hauled (refusedBy crossSection (length speeds))))
       (speedsOn crossBorder (grantedOn crossBorder (factsBeside (vehicles bs) hauled) (sectionsOf orders) .number) (factsBeside (vehicles bs) hauled) (sectionsOf orders)) speeds)
   unfolding accountRefusals
   cross-account-kept bs hauled speeds =
