@@ -25,7 +25,7 @@ unfolding bookOf
 book-rows CrossBorder = cross.cross-border-rows
 book-rows Domestic = domestic.domestic-rows
 
--- the book of a cross-border order is the one that it was before request Six
+-- the book of a cross-border order is the cross-border one
 pub cross-border-kept : bookOf CrossBorder ≡ crossBorder
 unfolding bookOf
 cross-border-kept = refl

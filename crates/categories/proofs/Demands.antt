@@ -34,12 +34,12 @@ pub category-table :
     × (map (λ (c : Category). c .column) crossRows ≡ map suc (0 ∷ 1 ∷ 2 ∷ 2 ∷ 3 ∷ []))
 category-table = (refl, refl, refl, refl)
 
--- ---- a cross-border category has the line and the percentage that it had before request Six
--- its column counts from ME120 among the five that its order has, whatever stands for ME140
+-- ---- what a cross-border row reads of an order's six limits and of the train's length
+-- a column counted behind ME140 is the one counted from ME120 among the five, whatever stands for ME140
 pub cross-line-kept : (n : ℕ) (me140 : ℕ) (limits : List ℕ) → firstPresent (drop (suc n) (me140 ∷ limits)) ≡ firstPresent (drop n limits)
 cross-line-kept n me140 limits = refl
 
--- its percentage is the table's at every train length
+-- a percentage that is the same at every train length is the table's
 pub cross-percentage-kept : (p length : ℕ) → stepped (same p) length ≡ p
 cross-percentage-kept p length = go (length atMost 0)
   where

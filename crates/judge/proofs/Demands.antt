@@ -53,7 +53,7 @@ use Rattle.judge.proofs.Sheets as sheets
 use Rattle.judge.proofs.Sheets.{sheet-long}
 use Rattle.judge.proofs.Shown.{shows-done}
 use Rattle.judge.proofs.Exactly as exactly
-use Rattle.judge.proofs.Exactly.{train-good, good-train, account-good, good-account}
+use Rattle.judge.proofs.Exactly.{lent-good, good-lent, train-good, good-train, account-good, good-account}
 
 -- ---- demand 1: every input is answered
 -- the refusals' numbers in document 01's two orders, and their places
@@ -90,16 +90,35 @@ done-only = done-is
 pub done-when-none-applies : (rs : List (Case Answer)) → Every (λ r. r .applies ≡ false) rs → firstOf Done rs ≡ Done
 done-when-none-applies = none-applies Done
 
--- a train is done exactly when it is good and so are the order and the room lent; and so are engines with an account
+-- a train is done exactly when it is good and nothing of what is lent beside it is refused; so are engines with an account
+pub train-done-around : (bs : List ℕ) (lent : List (Case Answer)) → Refusing lent
+    → (firstOf Done (trainAround bs lent) ≡ Done → GoodTrain bs × Every (λ r. r .applies ≡ false) lent)
+    × (GoodTrain bs → Every (λ r. r .applies ≡ false) lent → firstOf Done (trainAround bs lent) ≡ Done)
+train-done-around bs lent n = (train-good bs lent n, good-train bs lent)
+
+pub account-done-around : (bs : List ℕ) (hauled : Account) (lent : List (Case Answer)) → Refusing lent
+    → (firstOf Done (accountAround bs hauled lent) ≡ Done → GoodWithAccount bs hauled × Every (λ r. r .applies ≡ false) lent)
+    × (GoodWithAccount bs hauled → Every (λ r. r .applies ≡ false) lent → firstOf Done (accountAround bs hauled lent) ≡ Done)
+account-done-around bs hauled lent n = (account-good bs hauled lent n, good-account bs hauled lent)
+
+-- so for a sheet exactly when the order is good and there is room too
 pub train-done-exactly : (bs order : List ℕ) (room : ℕ)
     → (trainAnswer bs order room ≡ Done → GoodTrain bs × GoodLent order room)
     × (GoodTrain bs → GoodLent order room → trainAnswer bs order room ≡ Done)
-train-done-exactly bs order room = (train-good bs order room, good-train bs order room)
+unfolding trainRefusals
+train-done-exactly bs order room = (
+  λ done. let g = train-good bs (orderRefusals order room) (refl, (refl, tt)) done in (g .0, lent-good order room (g .1)),
+  λ g l. good-train bs (orderRefusals order room) g (good-lent order room l),
+)
 
 pub account-done-exactly : (bs : List ℕ) (hauled : Account) (order : List ℕ) (room : ℕ)
     → (accountAnswer bs hauled order room ≡ Done → GoodWithAccount bs hauled × GoodLent order room)
     × (GoodWithAccount bs hauled → GoodLent order room → accountAnswer bs hauled order room ≡ Done)
-account-done-exactly bs hauled order room = (account-good bs hauled order room, good-account bs hauled order room)
+unfolding accountRefusals
+account-done-exactly bs hauled order room = (
+  λ done. let g = account-good bs hauled (orderRefusals order room) (refl, (refl, tt)) done in (g .0, lent-good order room (g .1)),
+  λ g l. good-account bs hauled (orderRefusals order room) g (good-lent order room l),
+)
 
 -- what is lent beside a train, answered first and given as one answer, changes nothing
 pub train-judged : (bs : List ℕ) (lent : List (Case Answer)) → Refusing lent → trainJudged bs (firstOf Done lent) ≡ judgedBy (firstOf Done (trainAround bs lent)) (factsOf (vehicles bs))

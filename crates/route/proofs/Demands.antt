@@ -2,12 +2,13 @@
 use Prim.Native.Nat.{ℕ, _≤_, _<_}
 use native.Mathlib.Omega.{arith}
 use mathlib.Core.Path.{_≡_, refl, sym, ap, ap₂, _∙_}
-use mathlib.Core.Bool.{Bool, true, false, not, _&&_, cond}
+use mathlib.Core.Bool.{Bool, true, false, not, _&&_, _||_, cond}
 use mathlib.Core.List.{List, [], _∷_, _++_, map}
-use borrow.Author.Tests.{lt-ltb}
+use borrow.Author.Tests.{lt-ltb, le-ltb, ltb-false, ne-eqb, eqb-false, not-false}
 use lib.ListN.{length, take, drop, getD, replicate}
 use Rattle.lists.specs.Words.{_is_, _above_, all, leading, Every, Case, firstOf, caseAt}
-use Rattle.record.specs.Records.{recordCount, recordsOf}
+use Rattle.lists.proofs.Lists.{neither}
+use Rattle.record.specs.Records.{recordCount, recordsOf, isWhole}
 use Rattle.record.specs.Vehicles.{good, vehicles, isWorking}
 use Rattle.record.specs.Mistyped.{Mistyped}
 use Rattle.record.specs.declared.vehicle.Vehicle.{Vehicle}
@@ -38,10 +39,12 @@ use Rattle.sections.proofs.Demands.{sections-count, first-bad-section, cross-se
 use Rattle.sheets.specs.Sheets.{sheetLength}
 use Rattle.judge.specs.Answers.{numberOf, placeOf, refusal, isDone, orderRefusals, recordRefusals, engineRefusals, trainAround, accountAround, written}
 use Rattle.judge.specs.Answers as of-sheets
+use Rattle.judge.specs.Good.{GoodTrain, GoodWithAccount}
 use Rattle.judge.specs.declared.Answer.{Answer}
 use Rattle.judge.specs.declared.Answer.the-variants.{Done, BadField, BadOrder, ShortSheet}
 use Rattle.judge.proofs.Demands as judge
 use Rattle.route.specs.Answers.{noRoute, sectionRefusals, trainRefusals, accountRefusals, grantedFor, speedsFor, routeBy, trainAnswer, trainRoute, trainSpeeds, accountAnswer, accountRoute, accountSpeeds}
+use Rattle.route.specs.Good.{GoodOrders}
 use Rattle.route.specs.Shown.{Shows}
 use Rattle.route.specs.Withdrawn.{formerlyGranted, formerSpeeds}
 use Rattle.route.proofs.Routes.{sections-refusing, some-bad, sections-good, sections-room, speeds-long}
@@ -134,6 +137,45 @@ pub section-limits :
     (map (λ (n : ℕ). caseAt Done (sectionRefusals (replicate n 0) 0) 0 .applies) (0 ∷ 24 ∷ 25 ∷ 1536 ∷ 1560 ∷ []) ≡ true ∷ false ∷ true ∷ false ∷ true ∷ [])
     × (map (λ (room : ℕ). caseAt Done (sectionRefusals (replicate 48 0) room) 2 .applies) (1 ∷ 2 ∷ []) ≡ true ∷ false ∷ [])
 section-limits = (refl, refl)
+
+-- a route is done exactly when the train, or the engines with an account, are good as for a sheet, and so are its orders and the room
+module _ (orders : List ℕ) (room : ℕ) where
+  orders-good : Every (λ c. c .applies ≡ false) (sectionRefusals orders room) → GoodOrders orders room
+  orders-good t =
+      let whole = neither (not (isWhole orders) || recordCount orders is 0) (recordCount orders above 64) (t .0) in
+      let some = neither (not (isWhole orders)) (recordCount orders is 0) (whole .0) in
+      record {
+        whole = not-false (isWhole orders) (some .0);
+        some = above-zero (recordCount orders) (eqb-false (recordCount orders) 0 (some .1));
+        few = ltb-false 64 (recordCount orders) (whole .1);
+        each = not-false (all (goodSection (askedIn orders) (bookNamedIn orders)) (recordsOf orders)) (t .1 .0);
+        fits = ltb-false room (recordCount orders) (t .1 .1 .0);
+      }
+    where
+      above-zero : (n : ℕ) → (n ≡ 0 → ⊥) → 0 < n
+      above-zero n z = omega arith
+
+  good-orders : GoodOrders orders room → Every (λ c. c .applies ≡ false) (sectionRefusals orders room)
+  good-orders g =
+      let some = ne-eqb (recordCount orders) 0 (λ z. omega (arith, z, g .some)) in
+      let counted = ap₂ (λ (x y : Bool). not x || y || recordCount orders above 64) (g .whole) some ∙ le-ltb 64 (recordCount orders) (g .few) in
+      (counted, (ap not (g .each), (le-ltb room (recordCount orders) (g .fits), tt)))
+
+  pub train-done-exactly : (bs : List ℕ)
+      → (trainAnswer bs orders room ≡ Done → GoodTrain bs × GoodOrders orders room)
+      × (GoodTrain bs → GoodOrders orders room → trainAnswer bs orders room ≡ Done)
+  unfolding trainRefusals
+  train-done-exactly bs =
+      let around = judge.train-done-around bs (sectionRefusals orders room) (sections-refusing orders room) in
+      (λ done. let g = around .0 done in (g .0, orders-good (g .1)), λ g l. around .1 g (good-orders l))
+
+  pub account-done-exactly : (bs : List ℕ) (hauled : Account)
+      → (accountAnswer bs hauled orders room ≡ Done → GoodWithAccount bs hauled × GoodOrders orders room)
+      × (GoodWithAccount bs hauled → GoodOrders orders room → accountAnswer bs hauled orders room ≡ Done)
+  unfolding accountRefusals
+  account-done-exactly bs hauled =
+      let around = judge.account-done-around bs hauled (sectionRefusals orders room) (sections-refusing orders room) in
+      (λ done. let g = around .0 done in (g .0, orders-good (g .1)), λ g l. around .1 g (good-orders l))
 
 -- where a route is done, nothing is refused of its orders and the room
 train-orders : (bs orders : List ℕ) (room : ℕ) → trainAnswer bs orders room ≡ Done → Every (λ c. c .applies ≡ false) (sectionRefusals orders room)

@@ -49,7 +49,7 @@ module _ (asked : ℕ) (book : Book) where
       let t = both (goodSection asked book r) (all (goodSection asked book) rs) e in
       (good-asks r (t .0), good-alike rs (t .1))
 
--- on a route of the cross-border book a section is good exactly as before request Six
+-- on a route of the cross-border book a section is good by its table and the asked category alone, for the other book's orders fail that table
 pub cross-kept : (asked : ℕ) (r : List ℕ) → goodSection asked CrossBorder r ≡ (inRanges crossBorderFields r && orderOf r .asked is asked)
 unfolding goodSection goodOrder orderOf
 cross-kept asked r = go (valueAt 7 1 r is 1) refl

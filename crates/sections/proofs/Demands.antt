@@ -160,7 +160,7 @@ first-bad-section orders i h = leading-behind (goodSection (askedIn orders) (boo
 pub first-asks-itself : (orders : List ℕ) → goodSection (askedIn orders) (bookNamedIn orders) (getD (recordsOf orders) 0 []) ≡ goodOrder (getD (recordsOf orders) 0 [])
 first-asks-itself orders = asks.first-itself (recordsOf orders)
 
--- where the first names the cross-border book, a section is good exactly as before request Six
+-- where the first names the cross-border book, a section is good by the cross-border table and the asked category alone
 pub cross-section-kept : (asked : ℕ) (r : List ℕ) → goodSection asked CrossBorder r ≡ (inRanges crossBorderFields r && orderOf r .asked is asked)
 cross-section-kept = asks.cross-kept
 
