@@ -4,6 +4,7 @@ use mathlib.Core.List.{map}
 use lib.ListN.{replicate}
 use Rattle.lists.specs.Words.{all}
 use Rattle.lists.specs.Numbers.{littleEndian}
+use Rattle.closing.specs.Closing.{closes}
 use Rattle.record.specs.Records.{records}
 use Rattle.record.specs.Vehicles.{good, vehicle}
 use Rattle.account.specs.Accounts.{accountOf}
@@ -42,9 +43,9 @@ unfolding joining
 five-joined = refl
 
 pub answers-given : answers ≡ answered
-unfolding portionRefusals joinRefusals joining within all records good vehicle littleEndian
+unfolding portionRefusals joinRefusals joining within all records good vehicle littleEndian closes
 answers-given = refl
 
-pub empty-on-refusal : refusedAccounts ≡ replicate 5 none
-unfolding portionRefusals joinRefusals joining accountOf within all records good vehicle littleEndian
+pub empty-on-refusal : refusedAccounts ≡ replicate 6 none
+unfolding portionRefusals joinRefusals joining accountOf within all records good vehicle littleEndian closes
 empty-on-refusal = refl

@@ -1,9 +1,9 @@
 -- Document 01's account held to the page: each figure at its ceiling and one above, accounts of two lists, their marks, joinings of accounts that no list has, and answers.
 use Prim.Native.Nat.{ℕ}
-use mathlib.Core.Bool.{Bool, true, false, cond}
-use mathlib.Core.List.{List, [], _∷_, map}
+use mathlib.Core.Bool.{Bool, true, false}
+use mathlib.Core.List.{List, [], _∷_, _++_, map}
 use lib.ListN.{getD, replicate}
-use Rattle.lists.specs.Words.{_is_}
+use Rattle.record.specs.Limits.{written}
 use Rattle.record.specs.declared.vehicle.Vehicle.{Vehicle}
 use Rattle.account.specs.Accounts.{accountOf}
 use Rattle.account.specs.Ceilings.{within}
@@ -13,71 +13,86 @@ use Rattle.account.specs.Portions.{accounted, joined}
 use Rattle.account.specs.declared.Account.{Account}
 use Rattle.account.specs.declared.Accounted.{Accounted}
 
--- ---- the ceilings
--- an account with one figure alone, by its place on the page; those of requests come last
-abbrev alone : ℕ → ℕ → Account
-alone place x =
-    let at : ℕ → ℕ = λ k. cond (k is place) x 0 in
+-- ---- accounts by their figures
+-- an account that says these figures, in the page's order: count; mass, V masses, M masses, length; axles, those set to V, hauled engines, records set to M, isolated, D loads;
+-- leading, trailing and longest run, slowest speed; the first five; length set to V, M masses of hauled engines, V masses of wagons, set to M (requests Three and Six);
+-- and these marks: an engine behind a wagon, rules 16, 17, 18, a hauled engine not set to M
+abbrev pub saying : List ℕ → List Bool → Account
+saying figures marks =
     record {
-      count = at 0;
-      mass = at 1;
-      vmass = at 2;
-      mmass = at 3;
-      length = at 4;
-      axles = at 5;
-      vaxles = at 6;
-      engines = at 7;
-      mset = at 8;
-      isolated = at 9;
-      dloads = at 10;
-      leading = at 11;
-      trailing = at 12;
-      longest = at 13;
-      behind = false;
-      rule16 = false;
-      rule17 = false;
-      rule18 = false;
-      slowest = at 14;
-      first = at 15 ∷ at 16 ∷ at 17 ∷ at 18 ∷ at 19 ∷ [];
-      vlength = at 20;
-      enginemmass = at 21;
-      wagonvmass = at 22;
-      enginenotm = false;
+      count = figure 0;
+      mass = figure 1;
+      vmass = figure 2;
+      mmass = figure 3;
+      length = figure 4;
+      axles = figure 5;
+      vaxles = figure 6;
+      engines = figure 7;
+      mset = figure 8;
+      isolated = figure 9;
+      dloads = figure 10;
+      leading = figure 11;
+      trailing = figure 12;
+      longest = figure 13;
+      behind = mark 0;
+      rule16 = mark 1;
+      rule17 = mark 2;
+      rule18 = mark 3;
+      slowest = figure 14;
+      first = figure 15 ∷ figure 16 ∷ figure 17 ∷ figure 18 ∷ figure 19 ∷ [];
+      vlength = figure 20;
+      enginemmass = figure 21;
+      wagonvmass = figure 22;
+      enginenotm = mark 4;
     }
+  where
+    figure : ℕ → ℕ
+    figure place = getD figures place 0
 
-abbrev upTo : ℕ → List ℕ → List Bool
-upTo place xs = map (λ x. within (alone place x)) xs
+    mark : ℕ → Bool
+    mark place = getD marks place false
+
+abbrev unmarked : List Bool
+unmarked = []
+
+-- an account with one figure alone, by its place in that order
+abbrev pub alone : ℕ → ℕ → Account
+alone place x = saying (replicate place 0 ++ x ∷ []) unmarked
+
+-- ---- the ceilings
+abbrev atAndAbove : ℕ → List ℕ → List Bool
+atAndAbove place xs = map (λ x. within (alone place x)) xs
 
 abbrev pub atLimits : List (List Bool)
 atLimits =
     -- count; mass, V masses, M masses; length; axles, those set to V
-    upTo 0 (200 ∷ 201 ∷ [])
-    ∷ upTo 1 (500000 ∷ 500001 ∷ [])
-    ∷ upTo 2 (500000 ∷ 500001 ∷ [])
-    ∷ upTo 3 (500000 ∷ 500001 ∷ [])
-    ∷ upTo 4 (200000 ∷ 200001 ∷ [])
-    ∷ upTo 5 (4800 ∷ 4801 ∷ [])
-    ∷ upTo 6 (4800 ∷ 4801 ∷ [])
+    atAndAbove 0 (200 ∷ 201 ∷ [])
+    ∷ atAndAbove 1 (500000 ∷ 500001 ∷ [])
+    ∷ atAndAbove 2 (500000 ∷ 500001 ∷ [])
+    ∷ atAndAbove 3 (500000 ∷ 500001 ∷ [])
+    ∷ atAndAbove 4 (200000 ∷ 200001 ∷ [])
+    ∷ atAndAbove 5 (4800 ∷ 4801 ∷ [])
+    ∷ atAndAbove 6 (4800 ∷ 4801 ∷ [])
     -- hauled engines, records set to M, isolated, D loads
-    ∷ upTo 7 (200 ∷ 201 ∷ [])
-    ∷ upTo 8 (200 ∷ 201 ∷ [])
-    ∷ upTo 9 (200 ∷ 201 ∷ [])
-    ∷ upTo 10 (200 ∷ 201 ∷ [])
+    ∷ atAndAbove 7 (200 ∷ 201 ∷ [])
+    ∷ atAndAbove 8 (200 ∷ 201 ∷ [])
+    ∷ atAndAbove 9 (200 ∷ 201 ∷ [])
+    ∷ atAndAbove 10 (200 ∷ 201 ∷ [])
     -- leading, trailing and longest run; slowest speed
-    ∷ upTo 11 (200 ∷ 201 ∷ [])
-    ∷ upTo 12 (200 ∷ 201 ∷ [])
-    ∷ upTo 13 (200 ∷ 201 ∷ [])
-    ∷ upTo 14 (200 ∷ 201 ∷ [])
+    ∷ atAndAbove 11 (200 ∷ 201 ∷ [])
+    ∷ atAndAbove 12 (200 ∷ 201 ∷ [])
+    ∷ atAndAbove 13 (200 ∷ 201 ∷ [])
+    ∷ atAndAbove 14 (200 ∷ 201 ∷ [])
     -- the settings of the first five
-    ∷ upTo 15 (4 ∷ 5 ∷ [])
-    ∷ upTo 16 (4 ∷ 5 ∷ [])
-    ∷ upTo 17 (4 ∷ 5 ∷ [])
-    ∷ upTo 18 (4 ∷ 5 ∷ [])
-    ∷ upTo 19 (4 ∷ 5 ∷ [])
+    ∷ atAndAbove 15 (4 ∷ 5 ∷ [])
+    ∷ atAndAbove 16 (4 ∷ 5 ∷ [])
+    ∷ atAndAbove 17 (4 ∷ 5 ∷ [])
+    ∷ atAndAbove 18 (4 ∷ 5 ∷ [])
+    ∷ atAndAbove 19 (4 ∷ 5 ∷ [])
     -- length set to V (request Three); M masses of hauled engines, V masses of wagons, set to M (request Six)
-    ∷ upTo 20 (200000 ∷ 200001 ∷ [])
-    ∷ upTo 21 (500000 ∷ 500001 ∷ [])
-    ∷ upTo 22 (500000 ∷ 500001 ∷ [])
+    ∷ atAndAbove 20 (200000 ∷ 200001 ∷ [])
+    ∷ atAndAbove 21 (500000 ∷ 500001 ∷ [])
+    ∷ atAndAbove 22 (500000 ∷ 500001 ∷ [])
     ∷ []
 
 -- each of the 23
@@ -87,8 +102,8 @@ expected = replicate 23 (true ∷ false ∷ [])
 -- ---- the account of a list
 -- kind, setting, mass, braked mass in V and in M, length, axles, permitted speed, D load; joined
 abbrev hauled : ℕ → ℕ → ℕ → ℕ → ℕ → ℕ → ℕ → ℕ → ℕ → Vehicle
-hauled k s m v g l a speed d =
-    record { number = 18; mass = m; vmass = v; mmass = g; length = l; axles = a; kind = k; setting = s; joined = 1; speed = speed; matrossow = 0; dload = d }
+hauled kind setting mass v m length axles speed dload =
+    record { number = 18; mass = mass; vmass = v; mmass = m; length = length; axles = axles; kind = kind; setting = setting; joined = 1; speed = speed; matrossow = 0; dload = dload }
 
 -- none; an engine set to M before three wagons; nine with a run of three isolated
 abbrev pub lists : List (List Vehicle)
@@ -114,95 +129,35 @@ lists =
 -- the empty account has 200 as its slowest speed, and 4 where there is no setting
 abbrev pub none : Account
 none =
-    record {
-      count = 0;
-      mass = 0;
-      vmass = 0;
-      mmass = 0;
-      length = 0;
-      axles = 0;
-      vaxles = 0;
-      engines = 0;
-      mset = 0;
-      isolated = 0;
-      dloads = 0;
-      leading = 0;
-      trailing = 0;
-      longest = 0;
-      behind = false;
-      rule16 = false;
-      rule17 = false;
-      rule18 = false;
-      slowest = 200;
-      first = 4 ∷ 4 ∷ 4 ∷ 4 ∷ 4 ∷ [];
-      vlength = 0;
-      enginemmass = 0;
-      wagonvmass = 0;
-      enginenotm = false;
-    }
+    saying (0 ∷ 0 ∷ 0 ∷ 0 ∷ 0
+    ∷ 0 ∷ 0 ∷ 0 ∷ 0 ∷ 0 ∷ 0
+    ∷ 0 ∷ 0 ∷ 0 ∷ 200
+    ∷ 4 ∷ 4 ∷ 4 ∷ 4 ∷ 4
+    ∷ 0 ∷ 0 ∷ 0
+    ∷ []) unmarked
 
 abbrev pub accounts : List Account
 accounts =
     none
-    ∷ record {
-      count = 4;
-      mass = 2531;
-      vmass = 520;
-      mmass = 1303;
-      length = 660;
-      axles = 20;
-      vaxles = 8;
-      engines = 1;
-      mset = 2;
-      isolated = 1;
-      dloads = 1;
-      leading = 0;
-      trailing = 0;
-      longest = 1;
-      behind = false;
-      rule16 = false;
-      rule17 = false;
-      rule18 = false;
-      slowest = 100;
-      first = 1 ∷ 2 ∷ 0 ∷ 1 ∷ 4 ∷ [];
-      vlength = 150;
-      enginemmass = 800;
-      wagonvmass = 602;
-      enginenotm = false;
-    }
-    ∷ record {
-      count = 9;
-      mass = 5335;
-      vmass = 814;
-      mmass = 213;
-      length = 1345;
-      axles = 48;
-      vaxles = 6;
-      engines = 4;
-      mset = 1;
-      isolated = 6;
-      dloads = 5;
-      leading = 2;
-      trailing = 1;
-      longest = 3;
-      behind = true;
-      rule16 = true;
-      rule17 = false;
-      rule18 = false;
-      slowest = 90;
-      first = 0 ∷ 0 ∷ 1 ∷ 2 ∷ 0 ∷ [];
-      vlength = 204;
-      enginemmass = 0;
-      wagonvmass = 313;
-      enginenotm = true;
-    }
+    ∷ saying (4 ∷ 2531 ∷ 520 ∷ 1303 ∷ 660
+    ∷ 20 ∷ 8 ∷ 1 ∷ 2 ∷ 1 ∷ 1
+    ∷ 0 ∷ 0 ∷ 1 ∷ 100
+    ∷ 1 ∷ 2 ∷ 0 ∷ 1 ∷ 4
+    ∷ 150 ∷ 800 ∷ 602
+    ∷ []) unmarked
+    ∷ saying (9 ∷ 5335 ∷ 814 ∷ 213 ∷ 1345
+    ∷ 48 ∷ 6 ∷ 4 ∷ 1 ∷ 6 ∷ 5
+    ∷ 2 ∷ 1 ∷ 3 ∷ 90
+    ∷ 0 ∷ 0 ∷ 1 ∷ 2 ∷ 0
+    ∷ 204 ∷ 0 ∷ 313
+    ∷ []) (true ∷ true ∷ false ∷ false ∷ true ∷ [])
     ∷ []
 
 -- ---- the marks of a list
 -- kind, setting, joined, Matrossow brake
 abbrev standing : ℕ → ℕ → ℕ → ℕ → Vehicle
-standing k s j m =
-    record { number = 18; mass = 1; vmass = 0; mmass = 0; length = 1; axles = 1; kind = k; setting = s; joined = j; speed = 1; matrossow = m; dload = 0 }
+standing kind setting joined matrossow =
+    record { number = 18; mass = 1; vmass = 0; mmass = 0; length = 1; axles = 1; kind = kind; setting = setting; joined = joined; speed = 1; matrossow = matrossow; dload = 0 }
 
 -- engine behind a wagon, rules 16, 17, 18, engine not set to M
 abbrev marksOf : List Vehicle → List Bool
@@ -249,125 +204,39 @@ marked =
 -- ---- joining, of accounts that no list has
 abbrev one : Account
 one =
-    record {
-      count = 3;
-      mass = 11;
-      vmass = 22;
-      mmass = 33;
-      length = 44;
-      axles = 55;
-      vaxles = 66;
-      engines = 2;
-      mset = 77;
-      isolated = 88;
-      dloads = 99;
-      leading = 3;
-      trailing = 2;
-      longest = 1;
-      behind = false;
-      rule16 = true;
-      rule17 = false;
-      rule18 = false;
-      slowest = 150;
-      first = 0 ∷ 1 ∷ 2 ∷ 3 ∷ 4 ∷ [];
-      vlength = 110;
-      enginemmass = 121;
-      wagonvmass = 132;
-      enginenotm = false;
-    }
+    saying (3 ∷ 11 ∷ 22 ∷ 33 ∷ 44
+    ∷ 55 ∷ 66 ∷ 2 ∷ 77 ∷ 88 ∷ 99
+    ∷ 3 ∷ 2 ∷ 1 ∷ 150
+    ∷ 0 ∷ 1 ∷ 2 ∷ 3 ∷ 4
+    ∷ 110 ∷ 121 ∷ 132
+    ∷ []) (false ∷ true ∷ false ∷ false ∷ false ∷ [])
 
 abbrev other : Account
 other =
-    record {
-      count = 4;
-      mass = 100;
-      vmass = 200;
-      mmass = 300;
-      length = 400;
-      axles = 500;
-      vaxles = 600;
-      engines = 9;
-      mset = 10;
-      isolated = 20;
-      dloads = 30;
-      leading = 5;
-      trailing = 4;
-      longest = 2;
-      behind = false;
-      rule16 = false;
-      rule17 = true;
-      rule18 = false;
-      slowest = 140;
-      first = 3 ∷ 2 ∷ 1 ∷ 0 ∷ 4 ∷ [];
-      vlength = 700;
-      enginemmass = 800;
-      wagonvmass = 900;
-      enginenotm = true;
-    }
+    saying (4 ∷ 100 ∷ 200 ∷ 300 ∷ 400
+    ∷ 500 ∷ 600 ∷ 9 ∷ 10 ∷ 20 ∷ 30
+    ∷ 5 ∷ 4 ∷ 2 ∷ 140
+    ∷ 3 ∷ 2 ∷ 1 ∷ 0 ∷ 4
+    ∷ 700 ∷ 800 ∷ 900
+    ∷ []) (false ∷ false ∷ true ∷ false ∷ true ∷ [])
 
 abbrev pub together : Account
 together = joining one other
 
+-- leading is the left count, 3, and trailing the right count, 4; 2 and 5 isolated cross the cut; 3 are more than 2 engines, and the right has engines
 abbrev pub joinedFigures : Account
 joinedFigures =
-    record {
-      count = 7;
-      mass = 111;
-      vmass = 222;
-      mmass = 333;
-      length = 444;
-      axles = 555;
-      vaxles = 666;
-      engines = 11;
-      mset = 87;
-      isolated = 108;
-      dloads = 129;
-      -- 3 is the left count, 4 the right count; 2 and 5 cross the cut
-      leading = 8;
-      trailing = 6;
-      longest = 7;
-      -- 3 are more than 2 engines, and the right has 9
-      behind = true;
-      rule16 = true;
-      rule17 = true;
-      rule18 = false;
-      slowest = 140;
-      first = 0 ∷ 1 ∷ 2 ∷ 3 ∷ 2 ∷ [];
-      vlength = 810;
-      enginemmass = 921;
-      wagonvmass = 1032;
-      enginenotm = true;
-    }
+    saying (7 ∷ 111 ∷ 222 ∷ 333 ∷ 444
+    ∷ 555 ∷ 666 ∷ 11 ∷ 87 ∷ 108 ∷ 129
+    ∷ 8 ∷ 6 ∷ 7 ∷ 140
+    ∷ 0 ∷ 1 ∷ 2 ∷ 3 ∷ 2
+    ∷ 810 ∷ 921 ∷ 1032
+    ∷ []) (true ∷ true ∷ true ∷ false ∷ true ∷ [])
 
 -- count, leading, trailing, longest, hauled engines, the mark behind and the first five
 abbrev portion : ℕ → ℕ → ℕ → ℕ → ℕ → Bool → List ℕ → Account
 portion n leading trailing longest engines behind first =
-    record {
-      count = n;
-      mass = 0;
-      vmass = 0;
-      mmass = 0;
-      length = 0;
-      axles = 0;
-      vaxles = 0;
-      engines = engines;
-      mset = 0;
-      isolated = 0;
-      dloads = 0;
-      leading = leading;
-      trailing = trailing;
-      longest = longest;
-      behind = behind;
-      rule16 = false;
-      rule17 = false;
-      rule18 = false;
-      slowest = 200;
-      first = first;
-      vlength = 0;
-      enginemmass = 0;
-      wagonvmass = 0;
-      enginenotm = false;
-    }
+    saying (n ∷ 0 ∷ 0 ∷ 0 ∷ 0 ∷ 0 ∷ 0 ∷ engines ∷ 0 ∷ 0 ∷ 0 ∷ leading ∷ trailing ∷ longest ∷ 200 ∷ first) (behind ∷ [])
 
 -- runs joined: leading, trailing, longest
 abbrev runsOf : List ℕ → List ℕ
@@ -427,12 +296,23 @@ fivesJoined =
 abbrev answerOf : Accounted → ℕ × ℕ
 answerOf r = (numberOf (r .answer), placeOf (r .answer))
 
--- 1, 2, 3 of a portion, 7 and 2 of joining: a refusal returns the empty account
+-- good records: a working engine, a wagon, a hauled engine
+abbrev engine : List ℕ
+engine = getD written 0 []
+
+abbrev wagon : List ℕ
+wagon = getD written 1 []
+
+abbrev hauledEngine : List ℕ
+hauledEngine = getD written 2 []
+
+-- 1, 2, 3, 6 of a portion, 7 and 2 of joining: a refusal returns the empty account
 abbrev pub refusedAccounts : List Account
 refusedAccounts =
     accounted (replicate 23 0) .account
     ∷ accounted (replicate 4824 0) .account
     ∷ accounted (replicate 24 0) .account
+    ∷ accounted engine .account
     ∷ joined (alone 0 201) (alone 0 0) .account
     ∷ joined (alone 0 150) (alone 0 51) .account
     ∷ []
@@ -444,6 +324,10 @@ answers =
     ∷ answerOf (accounted (replicate 23 0))
     ∷ answerOf (accounted (replicate 4800 0))
     ∷ answerOf (accounted (replicate 4824 0))
+    -- a wagon and a hauled engine; a working engine behind them; and a record of zeros behind all
+    ∷ answerOf (accounted (wagon ++ hauledEngine))
+    ∷ answerOf (accounted (wagon ++ hauledEngine ++ engine))
+    ∷ answerOf (accounted (wagon ++ hauledEngine ++ engine ++ replicate 24 0))
     -- joining: a count at its ceiling and one above; the left, the right above its own
     ∷ answerOf (joined (alone 0 150) (alone 0 50))
     ∷ answerOf (joined (alone 0 150) (alone 0 51))
@@ -454,5 +338,6 @@ answers =
 abbrev pub answered : List (ℕ × ℕ)
 answered =
     (0, 0) ∷ (1, 0) ∷ (3, 0) ∷ (2, 0)
+    ∷ (0, 0) ∷ (6, 0) ∷ (3, 3)
     ∷ (0, 0) ∷ (2, 0) ∷ (7, 0) ∷ (7, 0)
     ∷ []

@@ -78,7 +78,7 @@ account-k-not-grown w engines hauled = deductions.k-not-grown w (factsBeside eng
 pub account-margin-not-less : (c : Category) (engines hauled : List Vehicle) (o : Order) → wholeMarginFor c (factsBeside engines (accountOf hauled)) o ≤ℤ marginFor c (factsBeside engines (accountOf hauled)) o
 account-margin-not-less c engines hauled o = deductions.margin-not-less c (factsBeside engines (accountOf hauled)) o (v-length-beside engines hauled)
 
--- ---- vehicles of which none is set to V, isolated or in M, put in anywhere among the hauled, leave k as it was
+-- ---- vehicles that are isolated, in M or in R, put in anywhere among the hauled, leave k as it was
 pub account-k-kept : (w : Weigh) (engines front others back : List Vehicle) → some isV others ≡ false
     → deductionOf w (factsBeside engines (accountOf (front ++ (others ++ back)))) ≡ deductionOf w (factsBeside engines (accountOf (front ++ back)))
 unfolding besideOf

@@ -44,17 +44,13 @@ atLimits =
     ∷ begunOf 5200
     ∷ begunOf 5201
     -- braked mass: three quarters of M, and 2, 10 and no more than 10 percent deducted, in 1 to 3; the whole of both in 4 and 5
-    ∷ brakedOf (categoryOf 1 crossRows) (braking 5201)
     ∷ brakedOf (categoryOf 1 crossRows) (braking 7000)
     ∷ brakedOf (categoryOf 1 crossRows) (braking 7001)
-    ∷ brakedOf (categoryOf 4 crossRows) (braking 5201)
+    ∷ map (λ n. brakedOf (categoryOf n crossRows) (braking 5201)) (1 ∷ 2 ∷ 3 ∷ 4 ∷ 5 ∷ [])
     -- in ME the whole M mass of engines and three quarters of the V mass of wagons, in MA the whole M mass; nothing deducted
-    ∷ brakedOf (categoryOf 1 domesticRows) (braking 7000)
-    ∷ brakedOf (categoryOf 3 domesticRows) (braking 7000)
-    ∷ brakedOf (categoryOf 4 domesticRows) (braking 7000)
-    ∷ brakedOf (categoryOf 6 domesticRows) (braking 7000)
+    ++ map (λ n. brakedOf (categoryOf n domesticRows) (braking 7000)) (1 ∷ 2 ∷ 3 ∷ 4 ∷ 5 ∷ 6 ∷ [])
     -- p by train length
-    ∷ percentages 1 meEnds
+    ++ percentages 1 meEnds
     ++ percentages 2 meEnds
     ++ percentages 3 meEnds
     ++ percentages 4 maEnds
@@ -77,8 +73,9 @@ atLimits =
 abbrev pub expected : List ℕ
 expected =
     0 ∷ 1 ∷ 1 ∷ 2
-    ∷ 1274 ∷ 1170 ∷ 1170 ∷ 1400
-    ∷ 1450 ∷ 1450 ∷ 1400 ∷ 1400
+    ∷ 1170 ∷ 1170
+    ∷ 1274 ∷ 1274 ∷ 1274 ∷ 1400 ∷ 1400
+    ∷ 1450 ∷ 1450 ∷ 1450 ∷ 1400 ∷ 1400 ∷ 1400
     ∷ 97 ∷ 102 ∷ 102 ∷ 108 ∷ 108 ∷ 108
     ∷ 77 ∷ 81 ∷ 81 ∷ 86 ∷ 86 ∷ 94
     ∷ 60 ∷ 63 ∷ 63 ∷ 66 ∷ 66 ∷ 73

@@ -1,4 +1,4 @@
--- Case A of document 01 from its own bytes, through the judging library's definitions. Assumes nothing.
+-- Case A of document 01 from its own bytes, and each number of an answer, through the judging library's definitions. Assumes nothing.
 use mathlib.Core.Path.{_≡_, refl}
 use lib.ListN.{replicate}
 use Rattle.lists.specs.Words.{all}
@@ -19,9 +19,16 @@ use Rattle.books.specs.Books.{bookOf}
 use Rattle.rules.specs.Grants.{offerOf, grantedOf, decisionOf}
 use Rattle.sheets.specs.Sheets.{sheetLength, figuresOf, sheetOf}
 use Rattle.sheets.specs.Cases.{trainA, orderA, sheetA}
-use Rattle.judge.specs.Answers.{numberOf, placeOf, trainRefusals, trainAnswer, trainSheet, sheetFor}
+use Rattle.account.specs.Ceilings.{within}
+use Rattle.judge.specs.Answers.{numberOf, placeOf, trainRefusals, trainAnswer, trainSheet, accountRefusals, sheetFor}
+use Rattle.judge.specs.Cases.{answers, expected}
 
 -- number 0, place 0, and the 32 bytes that document 01 prints
 pub case-a : (numberOf (trainAnswer trainA orderA (sheetLength CrossBorder)) ≡ 0) × (placeOf (trainAnswer trainA orderA (sheetLength CrossBorder)) ≡ 0) × (trainSheet trainA orderA (replicate (sheetLength CrossBorder) 0) ≡ sheetA)
 unfolding trainRefusals sheetFor all good closes goodOrder figuresOf decisionOf grantedOf offerOf factsOf orderOf vehicle records littleEndian crossBorder brokenBy marginFor brakedOf termsOf marginOf fourfold lineSpeed speedOf percentageOf sheetOf bookOf
 case-a = (refl, refl, refl)
+
+-- each number from a train or an account for which it is given
+pub answers-given : answers ≡ expected
+unfolding trainRefusals accountRefusals within all good closes goodOrder orderOf vehicle records littleEndian
+answers-given = refl

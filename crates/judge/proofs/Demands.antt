@@ -197,26 +197,26 @@ train-refused bs order sheet e = refused-unwritten (trainAnswer bs order (length
 pub account-refused : (bs : List ℕ) (hauled : Account) (order sheet : List ℕ) → isDone (accountAnswer bs hauled order (length sheet)) ≡ false → accountSheet bs hauled order sheet ≡ sheet
 account-refused bs hauled order sheet e = refused-unwritten (accountAnswer bs hauled order (length sheet)) (sheetFor (factsBeside (vehicles bs) hauled) (orderOf order)) sheet e
 
--- request Two: where 1, 2 and 3 do not apply, one digit of one number mistyped is answered 3 at that record's place, whatever is lent beside
+-- request Two: of records that 1, 2 and 3 do not refuse, with one digit of one number mistyped: 3 at that record's place, whatever is lent beside
 pub train-mistyped : (bs other : List ℕ) (i : ℕ) → Mistyped bs other i → (lent : List (Case Answer)) → Every (λ r. r .applies ≡ false) (recordRefusals bs) → firstOf Done (trainAround other lent) ≡ BadField i
 train-mistyped = exactly.train-mistyped
 
--- of the working engines in front of an account, where 1, 7, 2 and 3 do not apply
+-- of engines with an account that 1, 7, 2 and 3 do not refuse, with one digit of an engine's number mistyped
 pub account-mistyped : (bs other : List ℕ) (i : ℕ) → Mistyped bs other i → (hauled : Account) (lent : List (Case Answer)) → Every (λ r. r .applies ≡ false) (engineRefusals bs hauled)
     → firstOf Done (accountAround other hauled lent) ≡ BadField i
 account-mistyped = exactly.account-mistyped
 
 -- so with any order and room, and nothing is written
-pub train-slip-answered : (bs other : List ℕ) (i : ℕ) → Mistyped bs other i → (order sheet : List ℕ) → Every (λ r. r .applies ≡ false) (recordRefusals bs)
+pub train-mistyped-answered : (bs other : List ℕ) (i : ℕ) → Mistyped bs other i → (order sheet : List ℕ) → Every (λ r. r .applies ≡ false) (recordRefusals bs)
     → (trainAnswer other order (length sheet) ≡ BadField i) × (trainSheet other order sheet ≡ sheet)
 unfolding trainRefusals
-train-slip-answered bs other i m order sheet none =
+train-mistyped-answered bs other i m order sheet none =
     let a = train-mistyped bs other i m (orderRefusals order (length sheet)) none in (a, train-refused other order sheet (ap isDone a))
 
-pub account-slip-answered : (bs other : List ℕ) (i : ℕ) → Mistyped bs other i → (hauled : Account) (order sheet : List ℕ) → Every (λ r. r .applies ≡ false) (engineRefusals bs hauled)
+pub account-mistyped-answered : (bs other : List ℕ) (i : ℕ) → Mistyped bs other i → (hauled : Account) (order sheet : List ℕ) → Every (λ r. r .applies ≡ false) (engineRefusals bs hauled)
     → (accountAnswer other hauled order (length sheet) ≡ BadField i) × (accountSheet other hauled order sheet ≡ sheet)
 unfolding accountRefusals
-account-slip-answered bs other i m hauled order sheet none =
+account-mistyped-answered bs other i m hauled order sheet none =
     let a = account-mistyped bs other i m hauled (orderRefusals order (length sheet)) none in (a, account-refused other hauled order sheet (ap isDone a))
 
 -- ---- demand 2: the sheet that is written is the one the rules give, over the records, and over the figures

@@ -94,7 +94,7 @@ module _ (bs : List ℕ) (hauled : Account) (lent : List (Case Answer)) where
           working = not-false (all isWorking (vehicles bs)) (u .0);
           ceilings = not-false (within hauled) (t .1 .0);
           few = ltb-false 200 (recordCount bs + hauled .count) (t .1 .1 .0);
-          some = above-zero (hauled .count) (eqb-false (hauled .count) 0 (u .1 .1 .0));
+          hauled = above-zero (hauled .count) (eqb-false (hauled .count) 0 (u .1 .1 .0));
         },
         none-of lent n (p .1),
       )
@@ -104,7 +104,7 @@ module _ (bs : List ℕ) (hauled : Account) (lent : List (Case Answer)) where
       let whole = some-whole bs (g .engines .whole) (g .engines .some) in
       let together = le-ltb 200 (recordCount bs + hauled .count) (g .few) in
       let few = le-ltb 2 (length (vehicles bs)) (omega (arith, g .engines .few, length-vehicles (recordCount bs) bs)) in
-      let some = ne-eqb (hauled .count) 0 (λ z. omega (arith, z, g .some)) in
+      let some = ne-eqb (hauled .count) 0 (λ z. omega (arith, z, g .hauled)) in
       none-applies Done (accountAround bs hauled lent)
       (every-append (λ r. r .applies ≡ false) (engineRefusals bs hauled) (lent ++ engineShape (vehicles bs) hauled)
       (whole, (ap not (g .ceilings), (together, (ap not (g .engines .each), tt))))

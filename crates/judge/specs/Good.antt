@@ -31,9 +31,9 @@ pub record GoodTrain (bs : List ℕ) : Type 0 where
   pub hauled : 0 < length (hauledOf (vehicles bs))
 
 -- one or two whole good records, each a working engine, and an account within its ceilings that holds something: at most 200 together
-pub record GoodWithAccount (bs : List ℕ) (hauled : Account) : Type 0 where
+pub record GoodWithAccount (bs : List ℕ) (account : Account) : Type 0 where
   pub engines : GoodEngines bs
   pub working : all isWorking (vehicles bs) ≡ true
-  pub ceilings : within hauled ≡ true
-  pub few : recordCount bs + hauled .count ≤ 200
-  pub some : 0 < hauled .count
+  pub ceilings : within account ≡ true
+  pub few : recordCount bs + account .count ≤ 200
+  pub hauled : 0 < account .count

@@ -3,7 +3,7 @@ use Prim.Native.Nat.{ℕ}
 use mathlib.Core.Bool.{Bool, true, false}
 use mathlib.Core.List.{List, [], _∷_, _++_, map}
 use lib.ListN.{take}
-use Rattle.record.specs.Limits.{having}
+use Rattle.record.specs.Limits.{withNumber}
 use Rattle.order.specs.Orders.{goodOrder}
 use Rattle.order.specs.declared.Book.the-variants.{CrossBorder, Domestic}
 use Rattle.order.specs.declared.Order.{Order}
@@ -17,10 +17,10 @@ lowestDomestic = 0 ∷ 0 ∷ 0 ∷ 0 ∷ 0 ∷ 1 ∷ 0 ∷ 1 ∷ 1 ∷ 0 ∷ 0 �
 
 -- whether an order stays good with each of these numbers in so many bytes from s on, and with 1 in each of these bytes
 abbrev ranged : List ℕ → ℕ → ℕ → List ℕ → List Bool
-ranged order s w xs = map (λ x. goodOrder (having order s w x)) xs
+ranged order s w xs = map (λ x. goodOrder (withNumber order s w x)) xs
 
 abbrev withOneIn : List ℕ → List ℕ → List Bool
-withOneIn order places = map (λ s. goodOrder (having order s 1 1)) places
+withOneIn order places = map (λ s. goodOrder (withNumber order s 1 1)) places
 
 -- 23, 24 and 25 bytes
 abbrev lengths : List ℕ → List Bool

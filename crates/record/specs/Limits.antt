@@ -17,8 +17,8 @@ inBytes zero x = []
 inBytes (suc w) x = x % 256 ∷ inBytes w (x / 256)
 
 -- a record with another number in so many bytes from s on
-abbrev pub having : List ℕ → ℕ → ℕ → ℕ → List ℕ
-having r s w x = take s r ++ inBytes w x ++ drop (s + w) r
+abbrev pub withNumber : List ℕ → ℕ → ℕ → ℕ → List ℕ
+withNumber r s w x = take s r ++ inBytes w x ++ drop (s + w) r
 
 -- number 18, and all else at the low end
 abbrev lowest : List ℕ
@@ -26,7 +26,7 @@ lowest = 18 ∷ 0 ∷ 0 ∷ 0 ∷ 0 ∷ 0 ∷ 0 ∷ 0 ∷ 1 ∷ 0 ∷ 0 ∷ 0 �
 
 -- whether it stays in its ranges with each of these numbers in so many bytes from s on
 abbrev ranged : ℕ → ℕ → List ℕ → List Bool
-ranged s w xs = map (λ x. inRanges fields (having lowest s w x)) xs
+ranged s w xs = map (λ x. inRanges fields (withNumber lowest s w x)) xs
 
 abbrev pub atLimits : List Bool
 atLimits =
@@ -74,7 +74,7 @@ expectedBytes =
 -- the least and the greatest number that close, and their neighbours; then 23, 24 and 25 bytes
 abbrev pub offered : List (List ℕ)
 offered =
-    map (λ x. having lowest 0 8 x) (17 ∷ 18 ∷ 19 ∷ 999999999990 ∷ 999999999991 ∷ 999999999992 ∷ [])
+    map (λ x. withNumber lowest 0 8 x) (17 ∷ 18 ∷ 19 ∷ 999999999990 ∷ 999999999991 ∷ 999999999992 ∷ [])
     ++ (take 23 lowest ∷ lowest ∷ (lowest ++ 0 ∷ []) ∷ [])
 
 abbrev pub taken : List Bool
@@ -99,18 +99,18 @@ says =
 -- ---- a file
 -- two records and seven bytes more: from the head, in order, and no third
 abbrev pub file : List ℕ
-file = having lowest 8 2 600 ++ having lowest 8 2 700 ++ replicate 7 1
+file = withNumber lowest 8 2 600 ++ withNumber lowest 8 2 700 ++ replicate 7 1
 
 abbrev pub filed : List (List ℕ)
-filed = having lowest 8 2 600 ∷ having lowest 8 2 700 ∷ []
+filed = withNumber lowest 8 2 600 ∷ withNumber lowest 8 2 700 ∷ []
 
 -- 3: the first record out of range, counted from 0; a mass of 0 is
 abbrev pub scans : List Found
 scans =
     firstBad []
     ∷ firstBad (lowest ∷ lowest ∷ [])
-    ∷ firstBad (lowest ∷ having lowest 8 2 0 ∷ having lowest 8 2 0 ∷ lowest ∷ [])
-    ∷ firstBad (having lowest 8 2 0 ∷ lowest ∷ [])
+    ∷ firstBad (lowest ∷ withNumber lowest 8 2 0 ∷ withNumber lowest 8 2 0 ∷ lowest ∷ [])
+    ∷ firstBad (withNumber lowest 8 2 0 ∷ lowest ∷ [])
     ∷ []
 
 abbrev pub found : List Found
@@ -119,7 +119,7 @@ found = Nothing ∷ Nothing ∷ At 1 ∷ At 0 ∷ []
 -- ---- what a byte means
 -- these tests of a vehicle with a number in one byte
 abbrev tested : List (Vehicle → Bool) → ℕ → ℕ → List Bool
-tested tests s x = map (λ test. test (vehicle (having lowest s 1 x))) tests
+tested tests s x = map (λ test. test (vehicle (withNumber lowest s 1 x))) tests
 
 abbrev kinds : List (Vehicle → Bool)
 kinds = isWagon ∷ isHauledEngine ∷ isWorking ∷ []

@@ -117,18 +117,18 @@ module _ (orders speeds : List ℕ) (i : ℕ) (counted : noRoute orders ≡ fals
       let a = judge.account-lent-refused bs hauled (sectionRefusals orders (length speeds)) (sections-refusing orders (length speeds)) none (ap isDone refused-there) ∙ refused-there in
       (ap (λ (x : Answer). routeBy x (grantedFor (factsBeside (vehicles bs) hauled) orders)) a, account-refused bs hauled orders speeds (ap isDone a) .1)
 
--- request Two: where nothing before 4 applies, one digit of one number mistyped is answered 3 at that record's place, whatever the orders, with category 0, and the bytes lent are as they were
-pub train-slip-answered : (bs other : List ℕ) (i : ℕ) → Mistyped bs other i → (orders speeds : List ℕ) → Every (λ r. r .applies ≡ false) (recordRefusals bs)
+-- request Two: of records that 1, 2 and 3 do not refuse (engines with an account: 1, 7, 2 and 3), with one digit of one number mistyped: 3 at that record's place, whatever the orders, category 0, and the bytes lent are as they were
+pub train-mistyped-answered : (bs other : List ℕ) (i : ℕ) → Mistyped bs other i → (orders speeds : List ℕ) → Every (λ r. r .applies ≡ false) (recordRefusals bs)
     → (trainRoute other orders (length speeds) ≡ record { answer = BadField i; granted = 0 }) × (trainSpeeds other orders speeds ≡ speeds)
 unfolding trainRefusals
-train-slip-answered bs other i m orders speeds none =
+train-mistyped-answered bs other i m orders speeds none =
     let a = judge.train-mistyped bs other i m (sectionRefusals orders (length speeds)) none in
     (ap (λ (x : Answer). routeBy x (grantedFor (factsOf (vehicles other)) orders)) a, train-refused other orders speeds (ap isDone a) .1)
 
-pub account-slip-answered : (bs other : List ℕ) (i : ℕ) → Mistyped bs other i → (hauled : Account) (orders speeds : List ℕ) → Every (λ r. r .applies ≡ false) (engineRefusals bs hauled)
+pub account-mistyped-answered : (bs other : List ℕ) (i : ℕ) → Mistyped bs other i → (hauled : Account) (orders speeds : List ℕ) → Every (λ r. r .applies ≡ false) (engineRefusals bs hauled)
     → (accountRoute other hauled orders (length speeds) ≡ record { answer = BadField i; granted = 0 }) × (accountSpeeds other hauled orders speeds ≡ speeds)
 unfolding accountRefusals
-account-slip-answered bs other i m hauled orders speeds none =
+account-mistyped-answered bs other i m hauled orders speeds none =
     let a = judge.account-mistyped bs other i m hauled (sectionRefusals orders (length speeds)) none in
     (ap (λ (x : Answer). routeBy x (grantedFor (factsBeside (vehicles other) hauled) orders)) a, account-refused other hauled orders speeds (ap isDone a) .1)
 

@@ -4,39 +4,20 @@ use mathlib.Core.Bool.{Bool, true, false}
 use mathlib.Core.List.{List, [], _∷_, _++_, map}
 use lib.ListN.{take, drop, replicate}
 use Rattle.lists.specs.Words.{_is_}
-use Rattle.record.specs.Limits.{having}
+use Rattle.record.specs.Limits.{withNumber}
+use Rattle.account.specs.Limits.{saying}
 use Rattle.account.specs.declared.Account.{Account}
 use Rattle.travel.specs.AccountRecords.{isAccount, recordOf}
 
--- with the mark at this byte alone
+-- different figures, with the mark at this byte alone
 abbrev marked : ℕ → Account
 marked byte =
-    record {
-      count = 101;
-      mass = 400001;
-      vmass = 300002;
-      mmass = 200003;
-      length = 150004;
-      axles = 4005;
-      vaxles = 3006;
-      engines = 107;
-      mset = 108;
-      isolated = 109;
-      dloads = 110;
-      leading = 111;
-      trailing = 112;
-      longest = 113;
-      behind = byte is 56;
-      rule16 = byte is 57;
-      rule17 = byte is 58;
-      rule18 = byte is 59;
-      slowest = 114;
-      first = 2 ∷ 0 ∷ 3 ∷ 1 ∷ 4 ∷ [];
-      vlength = 120015;
-      enginemmass = 250016;
-      wagonvmass = 350017;
-      enginenotm = byte is 81;
-    }
+    saying (101 ∷ 400001 ∷ 300002 ∷ 200003 ∷ 150004
+    ∷ 4005 ∷ 3006 ∷ 107 ∷ 108 ∷ 109 ∷ 110
+    ∷ 111 ∷ 112 ∷ 113 ∷ 114
+    ∷ 2 ∷ 0 ∷ 3 ∷ 1 ∷ 4
+    ∷ 120015 ∷ 250016 ∷ 350017
+    ∷ []) (map (λ place. byte is place) (56 ∷ 57 ∷ 58 ∷ 59 ∷ 81 ∷ []))
 
 -- rule 16 is broken in it
 abbrev pub travelling : Account
@@ -94,7 +75,7 @@ marksWritten =
 -- ---- an account, or none
 -- with a number in a byte of these 128
 abbrev put : ℕ → ℕ → Bool
-put byte x = isAccount (having written byte 1 x)
+put byte x = isAccount (withNumber written byte 1 x)
 
 abbrev pub atLimits : List Bool
 atLimits =
