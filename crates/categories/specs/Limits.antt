@@ -49,15 +49,21 @@ atLimits =
     ∷ map (λ n. brakedOf (categoryOf n crossRows) (braking 5201)) (1 ∷ 2 ∷ 3 ∷ 4 ∷ 5 ∷ [])
     -- in ME the whole M mass of engines and three quarters of the V mass of wagons, in MA the whole M mass; nothing deducted
     ++ map (λ n. brakedOf (categoryOf n domesticRows) (braking 7000)) (1 ∷ 2 ∷ 3 ∷ 4 ∷ 5 ∷ 6 ∷ [])
-    -- p by train length
-    ++ percentages 1 meEnds
+
+-- p by train length
+abbrev pub byLength : List ℕ
+byLength =
+    percentages 1 meEnds
     ++ percentages 2 meEnds
     ++ percentages 3 meEnds
     ++ percentages 4 maEnds
     ++ percentages 5 maEnds
     ++ percentages 6 maEnds
+
+abbrev pub onLine : List ℕ
+onLine =
     -- byte 6 one below the table's percentage, the same, one above; 0 is a value like any other
-    ++ map (withGerman 1) (0 ∷ 76 ∷ 77 ∷ 78 ∷ [])
+    map (withGerman 1) (0 ∷ 76 ∷ 77 ∷ 78 ∷ [])
     ++ map (withGerman 5) (0 ∷ 49 ∷ 50 ∷ 51 ∷ 200 ∷ [])
     -- the least of its own, the line's and the slowest record's: its own of each category
     ++ map (λ n. speedWith n (replicate 6 200) 0) (1 ∷ 2 ∷ 3 ∷ 4 ∷ 5 ∷ [])
@@ -76,13 +82,21 @@ expected =
     ∷ 1170 ∷ 1170
     ∷ 1274 ∷ 1274 ∷ 1274 ∷ 1400 ∷ 1400
     ∷ 1450 ∷ 1450 ∷ 1450 ∷ 1400 ∷ 1400 ∷ 1400
-    ∷ 97 ∷ 102 ∷ 102 ∷ 108 ∷ 108 ∷ 108
+    ∷ []
+
+abbrev pub expectedByLength : List ℕ
+expectedByLength =
+    97 ∷ 102 ∷ 102 ∷ 108 ∷ 108 ∷ 108
     ∷ 77 ∷ 81 ∷ 81 ∷ 86 ∷ 86 ∷ 94
     ∷ 60 ∷ 63 ∷ 63 ∷ 66 ∷ 66 ∷ 73
     ∷ 57 ∷ 64 ∷ 64 ∷ 69 ∷ 69 ∷ 69
     ∷ 50 ∷ 57 ∷ 57 ∷ 61 ∷ 61 ∷ 61
     ∷ 47 ∷ 55 ∷ 55 ∷ 59 ∷ 59 ∷ 59
-    ∷ 77 ∷ 77 ∷ 77 ∷ 78
+    ∷ []
+
+abbrev pub expectedOnLine : List ℕ
+expectedOnLine =
+    77 ∷ 77 ∷ 77 ∷ 78
     ∷ 50 ∷ 50 ∷ 50 ∷ 51 ∷ 200
     ∷ 120 ∷ 100 ∷ 100 ∷ 100 ∷ 90
     ∷ 85 ∷ 84 ∷ 83 ∷ 83 ∷ 82
