@@ -3,7 +3,7 @@ use Prim.Native.Nat.{ℕ}
 use mathlib.Core.Bool.{Bool, true, false}
 use mathlib.Core.List.{List, [], _∷_, _++_, map}
 use lib.ListN.{getD, replicate}
-use Rattle.record.specs.Limits.{written}
+use Rattle.record.specs.Limits.{engine, wagon, hauledEngine}
 use Rattle.record.specs.declared.vehicle.Vehicle.{Vehicle}
 use Rattle.account.specs.Accounts.{accountOf}
 use Rattle.account.specs.Ceilings.{within}
@@ -295,16 +295,6 @@ fivesJoined =
 -- ---- answers: number and place
 abbrev answerOf : Accounted → ℕ × ℕ
 answerOf r = (numberOf (r .answer), placeOf (r .answer))
-
--- good records: a working engine, a wagon, a hauled engine
-abbrev engine : List ℕ
-engine = getD written 0 []
-
-abbrev wagon : List ℕ
-wagon = getD written 1 []
-
-abbrev hauledEngine : List ℕ
-hauledEngine = getD written 2 []
 
 -- 1, 2, 3, 6 of a portion, 7 and 2 of joining: a refusal returns the empty account
 abbrev pub refusedAccounts : List Account

@@ -2,20 +2,14 @@
 use Prim.Native.Nat.{ℕ}
 use mathlib.Core.List.{List, [], _∷_, _++_}
 use lib.ListN.{take, getD, replicate}
-use Rattle.record.specs.Limits.{written}
+use Rattle.record.specs.Limits.{engine, wagon}
 use Rattle.account.specs.Limits.{alone}
 use Rattle.account.specs.declared.Account.{Account}
 use Rattle.order.specs.Limits.{written as orders}
 use Rattle.judge.specs.Answers.{numberOf, placeOf, trainAnswer, accountAnswer}
 use Rattle.judge.specs.declared.Answer.{Answer}
 
--- good records: a working engine, a wagon; one with every field 0
-abbrev engine : List ℕ
-engine = getD written 0 []
-
-abbrev wagon : List ℕ
-wagon = getD written 1 []
-
+-- a record with every field 0; engine and wagon are good ones
 abbrev zeros : List ℕ
 zeros = replicate 24 0
 

@@ -81,13 +81,20 @@ abbrev pub taken : List Bool
 taken = false ∷ true ∷ false ∷ false ∷ true ∷ false ∷ false ∷ true ∷ false ∷ []
 
 -- ---- as written, so read
--- a working engine set to M and joined, a wagon set to V with byte 21, a hauled engine set to R with a D load
+-- a working engine set to M and joined
+abbrev pub engine : List ℕ
+engine = 237 ∷ 248 ∷ 62 ∷ 201 ∷ 50 ∷ 0 ∷ 0 ∷ 0 ∷ 133 ∷ 3 ∷ 234 ∷ 3 ∷ 35 ∷ 3 ∷ 4 ∷ 1 ∷ 6 ∷ 2 ∷ 1 ∷ 1 ∷ 140 ∷ 0 ∷ 0 ∷ 0 ∷ []
+
+-- a wagon set to V with byte 21
+abbrev pub wagon : List ℕ
+wagon = 73 ∷ 116 ∷ 188 ∷ 52 ∷ 74 ∷ 0 ∷ 0 ∷ 0 ∷ 88 ∷ 2 ∷ 174 ∷ 1 ∷ 244 ∷ 1 ∷ 150 ∷ 0 ∷ 4 ∷ 0 ∷ 2 ∷ 0 ∷ 120 ∷ 1 ∷ 0 ∷ 0 ∷ []
+
+-- a hauled engine set to R with a D load
+abbrev pub hauledEngine : List ℕ
+hauledEngine = 77 ∷ 189 ∷ 204 ∷ 189 ∷ 213 ∷ 0 ∷ 0 ∷ 0 ∷ 196 ∷ 9 ∷ 0 ∷ 0 ∷ 1 ∷ 0 ∷ 232 ∷ 3 ∷ 24 ∷ 1 ∷ 3 ∷ 0 ∷ 200 ∷ 0 ∷ 1 ∷ 0 ∷ []
+
 abbrev pub written : List (List ℕ)
-written =
-    (237 ∷ 248 ∷ 62 ∷ 201 ∷ 50 ∷ 0 ∷ 0 ∷ 0 ∷ 133 ∷ 3 ∷ 234 ∷ 3 ∷ 35 ∷ 3 ∷ 4 ∷ 1 ∷ 6 ∷ 2 ∷ 1 ∷ 1 ∷ 140 ∷ 0 ∷ 0 ∷ 0 ∷ [])
-    ∷ (73 ∷ 116 ∷ 188 ∷ 52 ∷ 74 ∷ 0 ∷ 0 ∷ 0 ∷ 88 ∷ 2 ∷ 174 ∷ 1 ∷ 244 ∷ 1 ∷ 150 ∷ 0 ∷ 4 ∷ 0 ∷ 2 ∷ 0 ∷ 120 ∷ 1 ∷ 0 ∷ 0 ∷ [])
-    ∷ (77 ∷ 189 ∷ 204 ∷ 189 ∷ 213 ∷ 0 ∷ 0 ∷ 0 ∷ 196 ∷ 9 ∷ 0 ∷ 0 ∷ 1 ∷ 0 ∷ 232 ∷ 3 ∷ 24 ∷ 1 ∷ 3 ∷ 0 ∷ 200 ∷ 0 ∷ 1 ∷ 0 ∷ [])
-    ∷ []
+written = engine ∷ wagon ∷ hauledEngine ∷ []
 
 abbrev pub says : List Reading
 says =

@@ -1,8 +1,8 @@
 -- Document 01's vehicle that holds the speed, of short lists: the least byte 20, and the first in the train at a tie; and of portions of any kind.
 use Prim.Native.Nat.{ℕ}
 use mathlib.Core.List.{List, [], _∷_, _++_}
-use lib.ListN.{take, getD, replicate}
-use Rattle.record.specs.Limits.{written}
+use lib.ListN.{take, replicate}
+use Rattle.record.specs.Limits.{engine, wagon, hauledEngine}
 use Rattle.speed.specs.Speed.{holdsTheSpeed}
 
 -- a record of a permitted speed, told from others by its bytes around it
@@ -32,15 +32,6 @@ holding =
 
 -- ---- of two portions
 -- good records: a working engine of 140 km/h, a wagon of 120, a hauled engine of 200
-abbrev engine : List ℕ
-engine = getD written 0 []
-
-abbrev wagon : List ℕ
-wagon = getD written 1 []
-
-abbrev hauledEngine : List ℕ
-hauledEngine = getD written 2 []
-
 abbrev pub ofPortions : List (List ℕ)
 ofPortions =
     -- a working engine alone, in either portion; in front of a wagon, of a hauled engine; behind them
