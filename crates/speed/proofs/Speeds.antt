@@ -4,7 +4,7 @@ use native.Mathlib.Nat.{not-suc-le-zero, le_of_suc-le-suc}
 use native.Mathlib.Numerals.{add-one}
 use native.Mathlib.Omega.{arith}
 use mathlib.Core.Path.{◌≡◌, refl, sym, ap, ap₂, ◌∙◌, subst}
-use mathlib.Core.Bool.{Bool, true, false, ◌&&◌, cond, and_false}
+use mathlib.Core.Bool.{Bool, true, false, ◌&&◌, cond, and-false}
 use mathlib.Core.List.{List, [], ◌∷◌, ◌++◌}
 use mathlib.Core.Logic.{◌⊎◌, inl, inr}
 use borrow.Author.Tests.{lt-ltb, le-ltb, ltb-true, ltb-false, le-leb, lt-leb}
@@ -179,7 +179,7 @@ module _ (front back : List ℕ) where
 
   pub speed_many : 200 < record_count front + record_count back → [] ≡ holds_the_speed front back
   unfolding holds_the_speed
-  speed_many h = simp (lt-leb (record_count front + record_count back) 200 h, and_false (whole_good front && whole_good back))
+  speed_many h = simp (lt-leb (record_count front + record_count back) 200 h, and-false (whole_good front && whole_good back))
 
   module _ (good : (whole_good front && whole_good back) ≡ true) where
     pub speed_found : record_count front + record_count back ≤ 200 → slowest_of (records_of front ++ records_of back) ≡ holds_the_speed front back

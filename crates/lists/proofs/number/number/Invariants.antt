@@ -1,0 +1,16 @@
+-- `lists::number::number` meets its contract: `x` is the number of the bytes from `k` on. Assumes nothing.
+use Prim.Native.Nat.{ℕ, ◌≤◌, ◌<◌, ◌-◌, ◌+◌, ◌*◌, ◌^◌, min}
+use mathlib.Core.Path.{◌≡◌}
+use mathlib.Core.List.{List}
+use native.Mathlib.Omega.{arith}
+use lib.ListN.{length, get_or, take, drop, length-take, length-drop, drop_of_length-le}
+use lib.Seq.{get_or-take}
+use Rattle.lists.specs.Numbers.{little_endian}
+use Rattle.lists.proofs.Numbers.{Bytes, bytes_take, bytes_drop, number_below, number_down}
+use Rattle.lists.proofs.number.number.Given as goal
+
+abbrev pub invariant-loop-k : goal.invariant-loop-k
+invariant-loop-k l = (l.k ≤ l.width) × (l.x ≡ little_endian (drop l.k (take 8 l.bytes)))
+
+abbrev pub decreases-loop-k : goal.decreases-loop-k
+decreases-loop-k l = l.k
