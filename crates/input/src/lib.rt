@@ -1,4 +1,6 @@
 // Standard input read until it ends or a buffer is full: a read that fails is not an end.
+#![tactic(auto)]
+
 ghost use Rattle.std.specs.Prelude.{◌≡◌, ◌-◌, ◌≤◌, length};
 ghost use Rattle.libc.specs.Io.{Moved};
 ghost use Rattle.input.specs.Inputs.{input_after, Held};
@@ -6,7 +8,7 @@ ghost use Rattle.input.specs.Inputs.{input_after, Held};
 use libc::{EINTR, STDIN_FILENO};
 
 // So many bytes at the start of the buffer, and more may come; so many, and no more come or fit; or a part that counts for nothing.
-#[derive(Drop)]
+#[derive(Clone, Copy)]
 pub enum Input {
     Open(usize),
     Whole(usize),

@@ -1,4 +1,6 @@
 // The program RANGES: a line for each row of the three tables that are walked, whose it is, its first byte, width, low and high end.
+#![tactic(auto)]
+
 use io::print_decimal;
 use libc::STDOUT_FILENO;
 use order::{CROSS_BORDER, DOMESTIC};

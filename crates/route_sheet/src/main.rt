@@ -1,4 +1,6 @@
 // The program ROUTE: the sections of a route and vehicles on standard input, one line on standard output.
+#![tactic(auto)]
+
 use input::Input;
 use libc::{STDIN_FILENO, STDOUT_FILENO};
 

@@ -1,4 +1,6 @@
 // The program SHEET: an order record and vehicles on standard input, one line on standard output.
+#![tactic(auto)]
+
 use input::Input;
 use libc::{STDIN_FILENO, STDOUT_FILENO};
 

@@ -1,4 +1,6 @@
 // The program VECTORS: inputs of SHEET and ROUTE, each behind a byte that says whose it is and its length in two, and the line for each.
+#![tactic(auto)]
+
 use input::Input;
 use libc::{STDERR_FILENO, STDIN_FILENO, STDOUT_FILENO};
 use lists::number::number;

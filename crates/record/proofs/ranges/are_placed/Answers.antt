@@ -8,7 +8,6 @@ use lib.ListN.{length, take}
 use Rattle.lists.specs.Words.{all}
 use Rattle.record.specs.Ranges.{table_of, placed}
 use Rattle.record.proofs.Tables.{rows_more, rows_end, rows_not}
-
 use borrow.Author.Rules.{rules}
 use Rattle.record.proofs.ranges.are_placed.Goals as goal
 

@@ -8,7 +8,6 @@ use lib.ListN.{length, take}
 use Rattle.lists.specs.Words.{all}
 use Rattle.record.specs.Ranges.{field_good, table_of, placed}
 use Rattle.record.proofs.Tables.{rows_more, rows_end, rows_not, rows_at, short_bad, loose_bad, out_bad, each_in}
-
 use borrow.Author.Rules.{rules}
 use Rattle.record.proofs.ranges.is_in_ranges.Goals as goal
 

@@ -9,7 +9,6 @@ use Rattle.lists.specs.Numbers.{little_endian}
 use Rattle.record.specs.Ranges.{value, field_of, placed}
 use Rattle.lists.proofs.Numbers.{number_one}
 use Rattle.record.proofs.Tables.{lies_inside, eight_wide}
-
 use borrow.Author.Rules.{rules}
 use Rattle.record.proofs.ranges.number_of.Goals as goal
 

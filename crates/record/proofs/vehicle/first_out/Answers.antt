@@ -16,7 +16,6 @@ use Rattle.record.specs.declared.vehicle.Found.TheVariants.{At}
 use Rattle.record.proofs.Records.{lent_at, part_record, record_length}
 use Rattle.record.proofs.Tables.{rows_more}
 use Rattle.record.proofs.Vehicles.{row_placed, rows_good, rows_bad, fields_good, number_bad, records_more, bad_first, bad_none}
-
 use borrow.Author.Rules.{rules}
 use Rattle.record.proofs.vehicle.first_out.Goals as goal
 use Rattle.record.proofs.vehicle.first_out.Goals.{then-n-i, else-n-i+then-loop-f-test+then-not-is_in_range, else-n-i+else-loop-f-test+then-not-closes}
@@ -63,11 +62,11 @@ returns-then-place-n c =
     let s = c.args.file.now in
     let r = lent_at s o.i in
     elim c.if-n-i.branch [
-      then-n-i w ↦ absurd (omega arith)
-    | else-n-i+then-loop-f-test+then-not-is_in_range w ↦
-        ap At w.place-is ∙ found _ o.i s (omega arith) o.invariant.1 (rows_bad c.args.table.now c.requires r w.loop-f.f (omega (arith, w.loop-f-test.true, c.requires.0)) (sym w.is_in_range.ensures ∙ w.if-not-is_in_range.true))
-    | else-n-i+else-loop-f-test+then-not-closes w ↦
-        ap At w.place-is ∙ found _ o.i s (omega arith) o.invariant.1 (number_bad r (closing_told r _ _ w.value_of.ensures w.closes.ensures ∙ w.if-not-closes.true))
+      | then-n-i w ↦ absurd (omega arith)
+      | else-n-i+then-loop-f-test+then-not-is_in_range w ↦
+          ap At w.place-is ∙ found _ o.i s (omega arith) o.invariant.1 (rows_bad c.args.table.now c.requires r w.loop-f.f (omega (arith, w.loop-f-test.true, c.requires.0)) (sym w.is_in_range.ensures ∙ w.if-not-is_in_range.true))
+      | else-n-i+else-loop-f-test+then-not-closes w ↦
+          ap At w.place-is ∙ found _ o.i s (omega arith) o.invariant.1 (number_bad r (closing_told r _ _ w.value_of.ensures w.closes.ensures ∙ w.if-not-closes.true))
     ]
 
 pub returns : goal.returns
@@ -75,10 +74,10 @@ returns c =
     let o = c.records in
     let s = c.args.file.now in
     elim c.if-n-i.branch [
-      then-n-i w ↦
-        let z : o.i ≡ record_count s = omega arith in
-        let g = o.invariant.1 in
-        sym (bad_none (records (record_count s) s) (rw z at g))
-    | else-n-i+then-loop-f-test+then-not-is_in_range w ↦ absurd (omega arith)
-    | else-n-i+else-loop-f-test+then-not-closes w ↦ absurd (omega arith)
+      | then-n-i w ↦
+          let z : o.i ≡ record_count s = omega arith in
+          let g = o.invariant.1 in
+          sym (bad_none (records (record_count s) s) (rw z at g))
+      | else-n-i+then-loop-f-test+then-not-is_in_range w ↦ absurd (omega arith)
+      | else-n-i+else-loop-f-test+then-not-closes w ↦ absurd (omega arith)
     ]

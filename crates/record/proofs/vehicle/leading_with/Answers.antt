@@ -6,7 +6,6 @@ use mathlib.Core.Bool.{true}
 use Rattle.lists.specs.Words.{all}
 use Rattle.record.specs.Records.{record_count, records, has_byte}
 use Rattle.record.proofs.Vehicles.{front_more, front_ends, front_whole}
-
 use borrow.Author.Rules.{rules}
 use Rattle.record.proofs.vehicle.leading_with.Goals as goal
 

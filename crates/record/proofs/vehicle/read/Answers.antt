@@ -3,7 +3,6 @@ use mathlib.Core.Path.{refl, sym, ap, ◌∙◌}
 use native.Mathlib.Omega.{arith}
 use Rattle.record.specs.declared.vehicle.Reading.TheVariants.{Good}
 use Rattle.record.proofs.Vehicles.{is_nothing, alone_good, length_bad, reading_bad, reading_good}
-
 use borrow.Author.Rules.{rules}
 use Rattle.record.proofs.vehicle.read.Goals as goal
 
