@@ -2,12 +2,10 @@
 use mathlib.Core.Path.{refl}
 use Rattle.lists.specs.Numbers.{little_endian}
 use Rattle.travel.specs.AccountRecords.{account_in}
-use Rattle.travel.proofs.above_ceiling.Statement.{statement}
-use Rattle.travel.proofs.above_ceiling.Tie as tie
+use Rattle.std.proofs.Common.{arith}
+use borrow.Author.Rules.{rules}
+use Rattle.travel.proofs.above_ceiling.Goals as goal
 
-returns : tie.Need-returns
+pub returns : goal.returns
 unfolding account_in little_endian
 returns c = refl
-
-pub above-ceiling-spec : {M : Type 1} → statement M
-above-ceiling-spec = tie.close (tie.spec returns)
