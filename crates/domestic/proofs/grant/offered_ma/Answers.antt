@@ -1,0 +1,15 @@
+-- `domestic::grant::offered_ma` meets its contract: its speed on its line, and the first rule it breaks. Assumes nothing.
+use Prim.Native.Nat.{ℕ, min}
+use mathlib.Core.Path.{ap, ◌∙◌}
+use Rattle.categories.specs.Categories.{speed_of}
+use Rattle.rules.specs.Grants.{offer_of}
+use Rattle.std.proofs.Common.{arith}
+use borrow.Author.Rules.{rules}
+use Rattle.domestic.proofs.grant.offered_ma.Goals as goal
+
+pub returns : goal.returns
+unfolding offer_of speed_of
+returns c =
+    let a = c.args in
+    let speed = c.speed_on.ensures ∙ ap (λ (line : ℕ). min a.c.speed (min line a.f.slowest)) c.line_speed-line.ensures in
+    λ i. record { number = a.c.number; speed = speed i; broken = c.broken_by_ma.ensures i }
