@@ -1,0 +1,13 @@
+-- `books::decide` meets its contract, book by book. Assumes nothing.
+use Rattle.books.specs.Books.{book_of}
+use Rattle.std.proofs.Common.{arith}
+use borrow.Author.Rules.{rules}
+use Rattle.books.proofs.decide.Goals as goal
+
+pub returns-in-CrossBorder : goal.returns-in-CrossBorder
+unfolding book_of
+returns-in-CrossBorder c = rw c.in-CrossBorder.is c.decide_cross_border.ensures
+
+pub returns-in-Domestic : goal.returns-in-Domestic
+unfolding book_of
+returns-in-Domestic c = rw c.in-Domestic.is c.decide_domestic.ensures
