@@ -1,7 +1,7 @@
 /* Prskavon: the brake sheet of a freight train between France and Germany, or inside France, and its category for a route.
  *
  * Build the archive with `rt lib` in crates/exports and link it: cc -I include program.c crates/exports/out/libexports.a
- * (x86-64 Linux; of the C library it needs memcpy alone). Every function takes any bytes and always returns. There is no state and no
+ * (x86-64 Linux; of the C library it needs memcpy and memmove alone). Every function takes any bytes and always returns. There is no state and no
  * allocation, so calls may run on several threads at once. docs/LEAFLET.md says what each number and rule means,
  * docs/DOMESTIC.md what the domestic book holds.
  *
