@@ -1,9 +1,9 @@
 /* Prskavon: the brake sheet of a freight train between France and Germany, or inside France, and its category for a route.
  *
- * Build the archive with `rt staticlib exports` and link it: cc -I include program.c target/staticlib/libexports.a
- * (x86-64 Linux; of the C library it needs memcpy alone). Every function takes any bytes and always returns. There is no state and no
- * allocation, so calls may run on several threads at once. docs/LEAFLET.md says what each number and rule means,
- * docs/DOMESTIC.md what the domestic book holds.
+ * Build the archive with `rt lib` in crates/exports and link it: cc -I include program.c crates/exports/out/libexports.a
+ * (x86-64 Linux; of the C library it needs memcpy and memmove alone). Every function takes any bytes and always returns.
+ * There is no state and no allocation, so calls may run on several threads at once. docs/LEAFLET.md says what each number and
+ * rule means, docs/DOMESTIC.md what the domestic book holds.
  *
  * TWO BOOKS. Byte 7 of an order names the rule book by which a train is judged: 0 is the cross-border book (RC A 7a no 11),
  * 1 the domestic one (RC A-B 7a no 1, freight trains on lines with flat-rate braking). Vehicles and accounts are the same for

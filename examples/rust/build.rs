@@ -1,16 +1,16 @@
-//! Links the static library that `rt staticlib exports` leaves in the repository's target/staticlib/.
+//! Links the static library that `rt lib` leaves in the repository's crates/exports/out/.
 
 use std::env;
 use std::path::Path;
 
 fn main() {
     let manifest = env::var("CARGO_MANIFEST_DIR").expect("cargo names the package's directory");
-    let folder = Path::new(&manifest).join("../../target/staticlib");
+    let folder = Path::new(&manifest).join("../../crates/exports/out");
     let archive = folder.join("libexports.a");
     println!("cargo:rerun-if-changed={}", archive.display());
     assert!(
         archive.is_file(),
-        "target/staticlib/libexports.a is missing; make it with: rt staticlib exports"
+        "crates/exports/out/libexports.a is missing; make it with: (cd crates/exports && rt lib)"
     );
     println!("cargo:rustc-link-search=native={}", folder.display());
     println!("cargo:rustc-link-lib=static=exports");

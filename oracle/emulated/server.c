@@ -25,6 +25,18 @@ void *memcpy(void *to, const void *from, size_t n)
     return to;
 }
 
+void *memmove(void *to, const void *from, size_t n)
+{
+    uint8_t *t = to;
+    const uint8_t *f = from;
+    if (t <= f) return memcpy(to, from, n);
+    while (n--) {
+        t[n] = f[n];
+        __asm__ volatile("" ::: "memory");
+    }
+    return to;
+}
+
 static long system_call(long number, long a, long b, long c)
 {
     long result;

@@ -1,4 +1,4 @@
-/* The library's functions on a machine that is not x86-64: each thread starts its x86-64 code in the kit's emulator and asks it. */
+/* The library's functions on a machine that is not x86-64: each thread starts its x86-64 code in the emulator and asks it. */
 #include "prskavon.h"
 
 #include <stdint.h>

@@ -1,5 +1,5 @@
 // An answer as one number; an account, put into the room that a caller lends for it.
-ghost use Rattle.std.specs.Prelude.{◌≡◌, ◌<◌, ◌≤◌, length};
+ghost use Rattle.std.specs.Prelude.{◌≡◌, ◌<◌, ◌≤◌, ◌++◌, length, drop};
 ghost use Rattle.account.specs.Answers.{number_of, place_of};
 ghost use Rattle.exports.specs.Lent.{one_number, account_number, lent_number, lent_account};
 
@@ -64,6 +64,17 @@ pub(crate) fn lend(given: Accounted, room: &mut [u8]) -> u64
     }
     let account = given.account;
     let bytes = record_of(account);
-    bytes::copy(&bytes, room);
+    copy(&bytes, room);
     0
+}
+
+// Copies into the front of a buffer that has room, and answers how many bytes.
+pub(crate) fn copy(from: &[u8], to: &mut [u8]) -> usize
+    requires { length from.now ≤ length to.old }
+    ensures count { result ≡ length from.now }
+    ensures copied { to.new ≡ from.now ++ drop (length from.now) to.old }
+{
+    let n = from.len();
+    to[..n].copy_from_slice(from);
+    n
 }

@@ -11,7 +11,7 @@ ghost use Rattle.exports.specs.Lent.{sheet_number, route_number, lent_number, le
 use account::{account_of, join};
 use answer::{number_of, place_of};
 use judge::{Answer, sheet_of_account, sheet_of_train};
-use lend::{lend, one_number};
+use lend::{copy, lend, one_number};
 use record::vehicle::SIZE;
 use route::{Route, route_of_account, route_of_train};
 use speed::holds_the_speed;
@@ -114,5 +114,5 @@ pub extern "C" fn prskavon_holds_the_speed<'a>(
         return 0;
     }
     let part = holds_the_speed(front, back);
-    bytes::copy(part, vehicle)
+    copy(part, vehicle)
 }
