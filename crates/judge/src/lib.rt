@@ -162,7 +162,7 @@ fn put_sheet(judged: Judged, o: Order, sheet: &mut [u8]) -> Answer
             let made = sheet_of(f, o);
             let book = o.book;
             let n = length_of(book);
-            bytes::copy(&made[0..n], sheet);
+            sheet[..n].copy_from_slice(&made[..n]);
             Answer::Done
         }
     }

@@ -111,8 +111,8 @@ fn lay(head: [u8; 10], tail: [u8; 23], at: usize) -> [u8; MOST]
     ensures { result ≡ laid head tail at }
 {
     let mut line = [0u8; MOST];
-    bytes::copy(&head, &mut line);
-    bytes::copy(&tail, &mut line[at..]);
+    line[..10].copy_from_slice(&head);
+    line[at..at + 23].copy_from_slice(&tail);
     line
 }
 
