@@ -1,0 +1,22 @@
+-- `sections::grant::put_speeds` meets its contract: the first `i` speeds are laid. Assumes nothing.
+use Prim.Native.Nat.{ℕ, ◌-◌, ◌≤◌, ◌<◌, min}
+use native.Mathlib.Omega.{arith}
+use mathlib.Core.Path.{◌≡◌, refl, ap, ◌∙◌}
+use mathlib.Core.List.{List, []}
+use lib.ListN.{length, set, length-set}
+use Rattle.record.specs.Records.{record_count}
+use Rattle.order.specs.Orders.{order_of}
+use Rattle.order.specs.declared.Order.{Order}
+use Rattle.categories.specs.Categories.{category_of, rows_of}
+use Rattle.books.specs.Books.{book_of}
+use Rattle.sections.specs.Routes.{section_speed, speeds_on}
+use Rattle.sections.specs.Sections.{sections_of, book_named_in}
+use Rattle.sections.proofs.Lays.{laid_to, laid_more, laid_whole, length_speeds, speed_there}
+use Rattle.sections.proofs.grant.put_speeds.Given as goal
+
+abbrev pub invariant-loop-i : goal.invariant-loop-i
+invariant-loop-i l =
+    (l.i ≤ l.n) × (l.speeds ≡ laid_to (speeds_on (book_of (book_named_in l.orders)) l.number l.f (sections_of l.orders)) l.initial.speeds l.i) × (length l.speeds ≡ length l.initial.speeds)
+
+abbrev pub decreases-loop-i : goal.decreases-loop-i
+decreases-loop-i l = l.n - l.i
