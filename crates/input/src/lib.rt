@@ -13,6 +13,7 @@ const EINTR: i32 = 4;
 const EIO: i32 = 5;
 
 // Where bytes come from, and the number of the last error there.
+#[derive(Drop)]
 pub struct Source {
     pub stdin: Stdin,
     pub errno: i32,

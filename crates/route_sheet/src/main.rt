@@ -7,7 +7,10 @@ use std::io::IsTerminal;
 
 // A count, 255 orders, 201 vehicles. A line goes out only of a route that was read whole.
 fn main(rt: HostRuntime) {
-    let mut source = Source { stdin: rt.stdin(), errno: 0 };
+    let mut source = Source {
+        stdin: rt.stdin(),
+        errno: 0,
+    };
     let terminal = source.stdin.is_terminal();
     let mut space = [0u8; 10_945];
     let read = input::read_whole(&mut source, &mut space, terminal);

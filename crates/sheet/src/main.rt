@@ -7,7 +7,10 @@ use std::io::IsTerminal;
 
 // A sheet goes out only of a train that was read whole.
 fn main(rt: HostRuntime) {
-    let mut source = Source { stdin: rt.stdin(), errno: 0 };
+    let mut source = Source {
+        stdin: rt.stdin(),
+        errno: 0,
+    };
     let terminal = source.stdin.is_terminal();
     let mut space = [0u8; 4848];
     let read = input::read_whole(&mut source, &mut space, terminal);

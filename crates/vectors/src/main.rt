@@ -104,7 +104,10 @@ fn answer_next(
 
 // A count that no run uses up, so that it ends.
 fn main(rt: HostRuntime) {
-    let mut source = Source { stdin: rt.stdin(), errno: 0 };
+    let mut source = Source {
+        stdin: rt.stdin(),
+        errno: 0,
+    };
     let terminal = source.stdin.is_terminal();
     let mut buffer = [0u8; 65_536];
     for _ in 0..usize::MAX {
