@@ -11,7 +11,7 @@ use lists::number::lesser;
 use record::vehicle::{SIZE, Vehicle, leading_engines, leading_isolated};
 
 // The figures that are not sums by setting alone, and how many records are joined.
-#[derive(Drop)]
+#[derive(Clone, Copy)]
 pub(crate) struct Running {
     pub(crate) mass: u32,
     pub(crate) length: u32,

@@ -44,8 +44,8 @@ fn fill_first(n: u32, left: [u32; 5], right: [u32; 5]) -> [u32; 5]
 }
 
 pub(crate) fn add(left: Account, right: Account) -> Account
-    requires within { Within left }
-    requires within_2 { Within right }
+    requires left_within { Within left }
+    requires right_within { Within right }
     ensures { result ≡ joining left right }
 {
     let left_first = left.first;

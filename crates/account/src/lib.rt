@@ -1,4 +1,6 @@
 // The account of a portion of hauled vehicles, and joining. Knows no category.
+#![tactic(auto)]
+
 ghost use Rattle.std.specs.Prelude.{◌≡◌};
 ghost use Rattle.record.specs.Records.{records_of};
 ghost use Rattle.account.specs.Answers.{done_with, refused_by};
@@ -13,7 +15,7 @@ mod gather;
 mod joining;
 
 // The figures of hauled records, in document 01's order, then those of requests.
-#[derive(Drop)]
+#[derive(Clone, Copy)]
 pub struct Account {
     pub count: u32,
     pub mass: u32,
@@ -53,7 +55,7 @@ pub struct Account {
     pub enginenotm: bool,
 }
 
-#[derive(Drop)]
+#[derive(Clone, Copy)]
 pub enum Answer {
     // 0
     Done,
@@ -70,7 +72,7 @@ pub enum Answer {
 }
 
 // The answer beside the account: an enum can't hold the array of five.
-#[derive(Drop)]
+#[derive(Clone, Copy)]
 pub struct Accounted {
     pub answer: Answer,
     pub account: Account,

@@ -1,4 +1,6 @@
 // Document 01's number and place of an answer.
+#![tactic(auto)]
+
 ghost use Rattle.std.specs.Prelude.{◌≡◌};
 ghost use Rattle.judge.specs.Answers.{number_of, place_of};
 

@@ -1,4 +1,6 @@
 // What the programs SHEET and ROUTE say of their input: one line with the number, the place and what is given.
+#![tactic(auto)]
+
 ghost use Rattle.std.specs.Prelude.{◌≡◌, ◌++◌, ◌≤◌, length, drop};
 ghost use Rattle.std.proofs.lemmas.List.Edits.{sets};
 ghost use Rattle.bench.specs.Lines.{answer_fields, line_by, line_of};

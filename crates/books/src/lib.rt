@@ -1,4 +1,6 @@
 // The two rule books: what is decided by the one that an order names, and when the mark byte is 1.
+#![tactic(auto)]
+
 ghost use Rattle.std.specs.Prelude.{◌≡◌};
 ghost use Rattle.rules.specs.CrossBorder.{cross_border};
 ghost use Rattle.rules.specs.Grants.{decision_of};

@@ -7,7 +7,7 @@ use lists::number::lesser;
 use order::{Book, Order};
 
 // What a record set to M counts: three quarters of its M mass (note 8), the whole, or as a long locomotive (000, 1403.2).
-#[derive(Drop)]
+#[derive(Clone, Copy)]
 pub enum Weigh {
     ThreeQuarters,
     Whole,
@@ -15,7 +15,7 @@ pub enum Weigh {
 }
 
 // The percentage by train length: up to three ends, and beyond.
-#[derive(Drop)]
+#[derive(Clone, Copy)]
 pub struct Steps {
     pub end1: u32,
     pub p1: u8,
@@ -26,7 +26,7 @@ pub struct Steps {
     pub beyond: u8,
 }
 
-#[derive(Drop)]
+#[derive(Clone, Copy)]
 pub struct Category {
     pub number: u8,
     pub speed: u8,

@@ -17,7 +17,7 @@ use margin::Braked;
 use order::Order;
 
 // What a category and the order ask beside the facts.
-#[derive(Drop)]
+#[derive(Clone, Copy)]
 pub(crate) struct Terms {
     // its own
     pub(crate) speed: u8,
@@ -133,7 +133,7 @@ fn word_of(t: Terms, f: Facts) -> u32
 }
 
 // What a category has alike with the others of ME, or of MA.
-#[derive(Drop)]
+#[derive(Clone, Copy)]
 pub(crate) struct Family {
     // all that they break alike
     pub(crate) base: u32,

@@ -1,4 +1,6 @@
 // The C functions that a yard's or a partner's program links; include/prskavon.h documents them.
+#![tactic(auto)]
+
 ghost use Rattle.std.specs.Prelude.{◌≡◌, ◌≤◌, length};
 ghost use Rattle.account.specs.Portions.{accounted, joined};
 ghost use Rattle.judge.specs.Answers.{place_of, train_answer, train_sheet, account_answer, account_sheet};

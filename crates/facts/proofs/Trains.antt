@@ -119,8 +119,8 @@ beside_bounded e a p w =
       isolated = omega (arith, p.isolated, figure_at_lem a w 9);
       engines_braked = omega (arith, p.braked, figure_at_lem a w 2, figure_at_lem a w 21);
       wagons_braked = figure_at_lem a w 22;
-      slowestHauled = figure_at_lem a w 14;
-      slowestWorking = p.slowest;
+      slowest_hauled = figure_at_lem a w 14;
+      slowest_working = p.slowest;
     }
 
 pub held_is : (f : Facts) → Bounded f → held f ≡ f
@@ -157,8 +157,8 @@ held_is f b =
       hauledEngineNotM = f.hauledEngineNotM;
       long = f.long;
       fewWagons = f.fewWagons;
-      slowestHauled = tiny f.slowestHauled (omega (arith, b.slowestHauled)) i;
-      slowestWorking = tiny f.slowestWorking (omega (arith, b.slowestWorking)) i;
+      slowestHauled = tiny f.slowestHauled (omega (arith, b.slowest_hauled)) i;
+      slowestWorking = tiny f.slowestWorking (omega (arith, b.slowest_working)) i;
     }
   where
     small : (x : ℕ) → x < 4294967296 → x % 4294967296 ≡ x

@@ -6,7 +6,7 @@ ghost use Rattle.facts.specs.Engines.{engines_of, taken};
 use lists::number::lesser;
 use record::vehicle::{Reading, Vehicle, read};
 
-#[derive(Drop)]
+#[derive(Clone, Copy)]
 pub(crate) struct Engines {
     pub count: u32,
     pub mass: u32,

@@ -1,4 +1,6 @@
 // The facts of a train that the rules and the sheet read, from its working engines and an account of what they haul.
+#![tactic(auto)]
+
 ghost use Rattle.std.specs.Prelude.{◌≡◌, not, ◌&&◌, ◌||◌, cond, ◌+◌, ◌%◌, ◌≤◌, min};
 ghost use Rattle.lists.specs.Words.{◌is◌};
 ghost use Rattle.lists.specs.Figures.{count, some};
@@ -13,7 +15,7 @@ use record::vehicle::SIZE;
 
 mod engine;
 
-#[derive(Drop)]
+#[derive(Clone, Copy)]
 pub struct Facts {
     pub hauledMass: u32,
     pub trainMass: u32,

@@ -20,7 +20,7 @@ pub struct Source {
 }
 
 // So many bytes at the start of the buffer, and more may come; so many, and no more come or fit; or a part that counts for nothing.
-#[derive(Drop)]
+#[derive(Clone, Copy)]
 pub enum Input {
     Open(usize),
     Whole(usize),

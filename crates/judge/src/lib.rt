@@ -1,4 +1,6 @@
 // The judging library: what a train, or engines beside an account, is answered, and its sheet.
+#![tactic(auto)]
+
 ghost use Rattle.std.specs.Prelude.{◌≡◌, true, not, length};
 ghost use Rattle.lists.specs.Words.{◌is◌, all, first_of};
 ghost use Rattle.record.specs.Records.{records_of};
@@ -16,7 +18,7 @@ use sheets::{length_of, sheet_of};
 
 mod refusal;
 
-#[derive(Drop)]
+#[derive(Clone, Copy)]
 pub enum Answer {
     // 0
     Done,
@@ -43,14 +45,14 @@ pub enum Answer {
 }
 
 // A train as it goes to be judged: its facts, or why it has none.
-#[derive(Drop)]
+#[derive(Clone, Copy)]
 pub enum Judged {
     Ready(Facts),
     Refused(Answer),
 }
 
 // A train parted behind its working engines: whether neither part was refused, what it is answered where its records are good, and the parts.
-#[derive(Drop)]
+#[derive(Clone, Copy)]
 struct Parted {
     good: bool,
     answer: Answer,

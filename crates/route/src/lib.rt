@@ -1,4 +1,6 @@
 // A route: one train over up to 64 sections, in one category from end to end. The train is accounted once.
+#![tactic(auto)]
+
 ghost use Rattle.std.specs.Prelude.{◌≡◌, length};
 ghost use Rattle.lists.specs.Words.{first_of};
 ghost use Rattle.judge.specs.declared.Answer.TheVariants.{Done};
@@ -12,7 +14,7 @@ use sections::grant::{grant_on, put_speeds};
 use sections::section::leading_good;
 
 // The answer, and the category granted on every section, or 0.
-#[derive(Drop)]
+#[derive(Clone, Copy)]
 pub struct Route {
     pub answer: Answer,
     pub granted: u8,

@@ -10,7 +10,7 @@ use facts::Facts;
 use order::Order;
 
 // A category as it is offered: its speed, and the first rule it breaks, or 0.
-#[derive(Drop)]
+#[derive(Clone, Copy)]
 pub struct Offer {
     pub number: u8,
     pub speed: u8,
@@ -18,14 +18,14 @@ pub struct Offer {
 }
 
 // The number granted and its speed, or 0 and 0.
-#[derive(Drop)]
+#[derive(Clone, Copy)]
 pub struct Best {
     pub number: u8,
     pub speed: u8,
 }
 
 // What is decided of a train: of each category the first rule broken and the speed, and the category granted; six places, for the book that has most.
-#[derive(Drop)]
+#[derive(Clone, Copy)]
 pub struct Decision {
     pub broken: [u8; 6],
     pub speeds: [u8; 6],

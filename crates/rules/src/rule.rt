@@ -17,7 +17,7 @@ use margin::Braked;
 use order::Order;
 
 // What a category and the order ask beside the facts.
-#[derive(Drop)]
+#[derive(Clone, Copy)]
 pub struct Terms {
     // 4 and 5
     pub isg: bool,
@@ -100,7 +100,7 @@ fn first_set(marks: &[bool]) -> usize
 }
 
 // What a category has alike with the others of its family, 1 to 3 or 4 and 5.
-#[derive(Drop)]
+#[derive(Clone, Copy)]
 pub struct Family {
     // of the first rule broken at the still terms
     pub place: usize,

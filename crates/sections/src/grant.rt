@@ -14,7 +14,7 @@ use record::vehicle::SIZE;
 use rules::grant::{ABSENT, Best, Decision, choose};
 
 // Of each category the rule that it breaks on the first section where it breaks one, or 0, and the slowest section's speed.
-#[derive(Drop)]
+#[derive(Clone, Copy)]
 pub(crate) struct Offers {
     pub broken: [u8; 6],
     pub speeds: [u8; 6],

@@ -1,4 +1,6 @@
 // The sheet: its figures, and its bytes.
+#![tactic(auto)]
+
 ghost use Rattle.std.specs.Prelude.{◌≡◌, cond, ◌≤◌};
 ghost use Rattle.lists.specs.Words.{◌at_most◌};
 ghost use Rattle.margin.specs.Margin.{tonnes_of, bytes_of};
@@ -26,7 +28,7 @@ pub fn length_of(book: Book) -> usize
     }
 }
 
-#[derive(Drop)]
+#[derive(Clone, Copy)]
 pub struct Sheet {
     pub asked: u8,
     // the first common rule broken, or 0

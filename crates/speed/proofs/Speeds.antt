@@ -58,8 +58,8 @@ faster_in_front b r x rs h k =
       place = suc k.place;
       within = omega arith;
       there = k.there;
-      least = λ j. elim j [ zero ↦ λ l. omega (arith, k.least 0 (omega arith)) | suc i ↦ λ l. k.least i (le_of_suc-le-suc l) ];
-      first = λ j. elim j [ zero ↦ λ l. omega (arith, k.least 0 (omega arith)) | suc i ↦ λ l. k.first i (le_of_suc-le-suc l) ];
+      least = λ j. elim j as (λ i. i < length (b ∷ r ∷ rs) → byte20 x ≤ byte20 (get_or (b ∷ r ∷ rs) i [])) [ zero ↦ λ l. omega (arith, k.least 0 (omega arith)) | suc i ↦ λ l. k.least i (le_of_suc-le-suc l) ];
+      first = λ j. elim j as (λ i. i < suc k.place → byte20 x < byte20 (get_or (b ∷ r ∷ rs) i [])) [ zero ↦ λ l. omega (arith, k.least 0 (omega arith)) | suc i ↦ λ l. k.first i (le_of_suc-le-suc l) ];
     }
 
 -- a record in the second place that is no slower
@@ -99,7 +99,7 @@ through_holds b [] =
       place = 0;
       within = omega arith;
       there = refl;
-      least = λ j. elim j [ zero ↦ λ l. omega arith | suc i ↦ λ l. absurd (omega arith) ];
+      least = λ j. elim j as (λ i. i < length (b ∷ []) → byte20 (through b []) ≤ byte20 (get_or (b ∷ []) i [])) [ zero ↦ λ l. omega arith | suc i ↦ λ l. absurd (omega arith) ];
       first = λ j l. absurd (not-suc-le-zero l);
     }
 through_holds b (r ∷ rs) = go (ltb (byte20 r) (byte20 b)) refl (through_holds r rs) (through_holds b rs)

@@ -1,4 +1,6 @@
 // The vehicle that holds the speed, out of two portions in order.
+#![tactic(auto)]
+
 ghost use Rattle.std.specs.Prelude.{◌≡◌, [], ◌++◌, ◌+◌, ◌<◌, get_or};
 ghost use Rattle.record.specs.Records.{record_count, records_of};
 ghost use Rattle.speed.specs.Speed.{whole_good, slowest_of, holds_the_speed};

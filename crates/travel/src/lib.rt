@@ -1,4 +1,6 @@
 // An account as it travels between programs, in 128 bytes; include/prskavon.h has the table.
+#![tactic(auto)]
+
 ghost use Rattle.std.specs.Prelude.{◌≡◌, ◌+◌, ◌<◌, ◌≤◌, length};
 ghost use Rattle.std.proofs.lemmas.List.Edits.{sets};
 ghost use Rattle.lists.specs.Words.{◌is◌, all};

@@ -1,0 +1,36 @@
+-- `account::join` meets its contract. Assumes nothing.
+use mathlib.Core.Path.{sym, ap, ap₂, ◌∙◌}
+use mathlib.Core.Bool.{◌&&◌}
+use borrow.Author.Tests.{not-true, not-false}
+use Rattle.lists.proofs.Lists.{both}
+use Rattle.account.specs.Ceilings.{within}
+use Rattle.account.specs.Answers.{done_with}
+use Rattle.account.proofs.Ceils.{test_within}
+use Rattle.account.proofs.Joins.{joined_above, joined_many, joined_done}
+use Rattle.std.proofs.Common.{arith}
+use borrow.Author.Rules.{rules}
+use Rattle.account.proofs.join.Goals as goal
+
+pub returns-then-not-is_within : goal.returns-then-not-is_within
+returns-then-not-is_within c = c.refused.ensures ∙ joined_above _ _ (sym (ap₂ ◌&&◌ c.is_within.ensures c.is_within-2.ensures) ∙ c.if-not-is_within.true)
+
+pub add-account-requires : goal.add-account-requires
+add-account-requires c =
+    let a = c.args in
+    let t = both (within a.left) (within a.right) (sym (ap₂ ◌&&◌ c.is_within.ensures c.is_within-2.ensures) ∙ c.if-not-is_within.false) in
+    record { left_within = test_within a.left t.0; right_within = test_within a.right t.1 }
+
+pub returns-then-not-is_within-2 : goal.returns-then-not-is_within-2
+returns-then-not-is_within-2 c =
+    c.refused-then-not-is_within-2.ensures
+    ∙ joined_many _ _
+    (sym (ap₂ ◌&&◌ c.is_within.ensures c.is_within-2.ensures) ∙ c.if-not-is_within.false)
+    (ap within (sym c.add-account.ensures) ∙ sym c.is_within-3.ensures ∙ c.if-not-is_within-2.true)
+
+pub returns : goal.returns
+returns c =
+    c.done.ensures
+    ∙ ap done_with c.add-account.ensures
+    ∙ joined_done _ _
+    (sym (ap₂ ◌&&◌ c.is_within.ensures c.is_within-2.ensures) ∙ c.if-not-is_within.false)
+    (ap within (sym c.add-account.ensures) ∙ sym c.is_within-3.ensures ∙ c.if-not-is_within-2.false)
