@@ -13,9 +13,7 @@ use mir.Syntax.{w32}
 use mir.Val.{SFits, of_z, to_z}
 use mir.Facts.{to_z-of_z}
 use borrow.Author.Tests.{ltb-true, ltb-false, ne_eqb}
-use Rattle.io.specs.Counts.{IsPrefixLen}
-use Rattle.libc.specs.Io.{Moved}
-use Rattle.input.specs.Inputs.{interrupted, input_after, Held}
+use Rattle.input.specs.Inputs.{IsPrefixLen, Moved, interrupted, input_after, Held}
 use Rattle.input.specs.declared.Input.{Input}
 use Rattle.input.specs.declared.Input.TheVariants.{Open, Whole, Failed}
 

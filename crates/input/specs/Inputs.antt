@@ -1,8 +1,16 @@
 -- What stands read of standard input, call by call: a read that fails is not an end.
-use Rattle.std.specs.Prelude.{ℕ, zero, suc, ◌+◌, Bool, false, cond, List, eqb, ℤ, pos, negsuc}
-use Rattle.io.specs.Counts.{IsPrefixLen}
+use Rattle.std.specs.Prelude.{ℕ, zero, suc, ◌+◌, ◌≤◌, ◌≡◌, Bool, false, cond, List, length, take, eqb, ℤ, pos, negsuc}
 use Rattle.input.specs.declared.Input.{Input}
 use Rattle.input.specs.declared.Input.TheVariants.{Open, Whole, Failed}
+
+-- so many bytes lie at the start, and the part of the bytes up to there has as many
+abbrev pub IsPrefixLen : ℕ → List ℕ → Type 0
+IsPrefixLen n xs = (n ≤ length xs) × (n ≡ length (take n xs))
+
+-- what a call that is handed n bytes may answer: -1, or how many bytes it moved, at most n
+abbrev pub Moved : ℕ → ℤ → Type 0
+Moved n (pos k) = k ≤ n
+Moved n (negsuc k) = k ≡ 0
 
 -- errno's number of a call that a signal interrupted, EINTR
 abbrev pub interrupted : ℤ → Bool

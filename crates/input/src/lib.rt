@@ -2,10 +2,22 @@
 #![tactic(auto)]
 
 ghost use Rattle.std.specs.Prelude.{◌≡◌, ◌-◌, ◌≤◌, length};
-ghost use Rattle.libc.specs.Io.{Moved};
-ghost use Rattle.input.specs.Inputs.{input_after, Held};
+ghost use Rattle.input.specs.Inputs.{Moved, input_after, Held};
 
-use libc::{EINTR, STDIN_FILENO};
+use std::io::{IsTerminal, Read, Stdin};
+
+// Linux's number of a call that a signal interrupted.
+const EINTR: i32 = 4;
+
+// And of one on a line that was hung up; std says no number of that.
+const EIO: i32 = 5;
+
+// Where bytes come from, and the number of the last error there.
+#[derive(Drop)]
+pub struct Source {
+    pub stdin: Stdin,
+    pub errno: i32,
+}
 
 // So many bytes at the start of the buffer, and more may come; so many, and no more come or fit; or a part that counts for nothing.
 #[derive(Clone, Copy)]
@@ -40,24 +52,41 @@ fn after(done: usize, room: usize, got: isize, error: i32, lost: bool) -> Input
     }
 }
 
+// Read's answer as C has it, how many bytes or -1, with the error's number kept in the source.
+fn read(source: &mut Source, part: &mut [u8]) -> isize
+    ensures { Moved (length part.old) result }
+{
+    match source.stdin.read(part) {
+        Ok(n) => n as isize,
+        Err(error) => {
+            source.errno = error.raw_os_error().unwrap_or(EIO);
+            -1
+        }
+    }
+}
+
 // A terminal that was hung up is one no more, though a read of it may answer 0 as at an end.
-fn is_lost(terminal: bool) -> bool {
-    terminal && libc::isatty(STDIN_FILENO) != 1
+fn is_lost(source: &mut Source, terminal: bool) -> bool {
+    let is_lost = terminal && !source.stdin.is_terminal();
+    if is_lost {
+        source.errno = EIO;
+    }
+    is_lost
 }
 
 // Reads once, behind what is there.
-fn read_on(buffer: &mut [u8], done: usize, terminal: bool) -> Input
+fn read_on(source: &mut Source, buffer: &mut [u8], done: usize, terminal: bool) -> Input
     requires { done ≤ length buffer.old }
     ensures { Held result buffer.new }
 {
     let room = buffer.len();
-    let got = libc::read(STDIN_FILENO, &mut buffer[done..]);
-    let error = os::errno();
-    after(done, room, got, error, is_lost(terminal))
+    let got = read(source, &mut buffer[done..]);
+    let error = source.errno;
+    after(done, room, got, error, is_lost(source, terminal))
 }
 
 // Reads until standard input ends or the buffer is full; `terminal` says that it was one at first. The turns are more than a run can make.
-pub fn read_whole(buffer: &mut [u8], terminal: bool) -> Input
+pub fn read_whole(source: &mut Source, buffer: &mut [u8], terminal: bool) -> Input
     ensures { Held result buffer.new }
 {
     let mut input = Input::Open(0);
@@ -65,7 +94,7 @@ pub fn read_whole(buffer: &mut [u8], terminal: bool) -> Input
         let Input::Open(done) = input else {
             return input;
         };
-        let next = read_on(buffer, done, terminal);
+        let next = read_on(source, buffer, done, terminal);
         input = next;
     }
     input

@@ -1,39 +1,29 @@
 // The program RANGES: a line for each row of the three tables that are walked, whose it is, its first byte, width, low and high end.
 #![tactic(auto)]
 
-use io::print_decimal;
-use libc::STDOUT_FILENO;
 use order::{CROSS_BORDER, DOMESTIC};
 use record::vehicle::VEHICLE;
+use std::io;
 
-fn print_number(x: u64) -> bool {
-    io::write_all(STDOUT_FILENO, b" ") & print_decimal(STDOUT_FILENO, x)
+fn print_row(rt: &impl Print, whose: &str, row: [u64; 4]) -> io::Result<()> {
+    println!(rt; "{whose} {} {} {} {}", row[0], row[1], row[2], row[3])
 }
 
-fn print_row(whose: &[u8], row: [u64; 4]) -> bool {
-    io::write_all(STDOUT_FILENO, whose)
-        & print_number(row[0])
-        & print_number(row[1])
-        & print_number(row[2])
-        & print_number(row[3])
-        & io::write_all(STDOUT_FILENO, b"\n")
-}
-
-fn print_table(whose: &[u8], table: &[[u64; 4]]) -> bool {
-    let mut is_written = true;
-    let mut f = 0;
-    while f < table.len() {
-        is_written = is_written & print_row(whose, table[f]);
-        f += 1;
+fn print_table(rt: &impl Print, whose: &str, table: &[[u64; 4]]) -> io::Result<()> {
+    for row in table {
+        print_row(rt, whose, *row)?;
     }
-    is_written
+    Ok(())
 }
 
-fn main() {
-    let vehicles = print_table(b"vehicle", &VEHICLE);
-    let orders = print_table(b"order", &CROSS_BORDER);
-    let domestic = print_table(b"domestic", &DOMESTIC);
-    if !(vehicles & orders & domestic) {
-        os::fail(b"ranges: standard output could not be written");
+fn print_tables(rt: &impl Print) -> io::Result<()> {
+    print_table(rt, "vehicle", &VEHICLE)?;
+    print_table(rt, "order", &CROSS_BORDER)?;
+    print_table(rt, "domestic", &DOMESTIC)
+}
+
+fn main(rt: HostRuntime) {
+    if let Err(error) = print_tables(&rt) {
+        let _ = eprintln!(rt; "ranges: standard output could not be written: {error}");
     }
 }
