@@ -55,6 +55,7 @@ module _ (f : Facts) (o : Order) (rest : List ℕ) where
   each_byte Domestic = (refl, (refl, (refl, (refl, (refl, (refl, tt))))))
 
   among_every : (P : Category → Type 0) (rows : List Category) → Every P rows → (c : Category) → Among c rows → P c
+  among_every P [] e c x' = elim x' [ ]
   among_every P (x ∷ rows) e c (inl q) = subst P (sym q) e.0
   among_every P (x ∷ rows) e c (inr a) = among_every P rows e.1 c a
 
