@@ -2,21 +2,15 @@
 use Prim.Native.Nat.{ℕ}
 use mathlib.Core.Path.{refl}
 use mathlib.Core.List.{List, [], ◌∷◌}
-use borrow.Author.Rules.{rules}
 use Rattle.bench.specs.Texts.{glyph_of}
 use Rattle.bench.proofs.Tables.{at_place}
-use Rattle.bench.proofs.text.glyph.Statement.{statement}
-use Rattle.bench.proofs.text.glyph.Tie as tie
+use Rattle.std.proofs.Common.{arith}
+use borrow.Author.Rules.{rules}
+use Rattle.bench.proofs.text.glyph.Goals as goal
 
 abbrev glyphs : List ℕ
 glyphs = 48 ∷ 49 ∷ 50 ∷ 51 ∷ 52 ∷ 53 ∷ 54 ∷ 55 ∷ 56 ∷ 57 ∷ 97 ∷ 98 ∷ 99 ∷ 100 ∷ 101 ∷ 102 ∷ []
 
-array-read-result : tie.Need-array-read-result
-array-read-result c = search rules
-
-returns : tie.Need-returns
+pub returns : goal.returns
 unfolding glyph_of
 returns c = at_place glyph_of glyphs refl c.args.d (search rules)
-
-pub glyph-spec : {M : Type 1} → statement M
-glyph-spec = tie.close (tie.spec array-read-result returns)
