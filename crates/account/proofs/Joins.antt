@@ -6,10 +6,10 @@ use mathlib.Core.Bool.{Bool, true, false, not, ◌&&◌, ◌||◌, cond}
 use mathlib.Core.List.{List, [], ◌∷◌, ◌++◌}
 use lib.Dec.{ltb, eqb}
 use lib.ListN.{length, length-append}
-use Rattle.lists.specs.Words.{Every, leading}
+use Rattle.lists.specs.Words.{Every}
 use Rattle.record.specs.Vehicles.{is_wagon, is_hauled_engine, is_isolated, is_m, is_v, is_r, is_joined, has_matrossow, has_d_load}
 use Rattle.record.specs.declared.vehicle.Vehicle.{Vehicle}
-use Rattle.lists.specs.Figures.{sum, count, some, longest, behind}
+use Rattle.lists.specs.Figures.{sum, count, some, behind}
 use Rattle.account.specs.Accounts.{account_of, sums}
 use Rattle.account.specs.Ceilings.{within}
 use Rattle.account.specs.Joining.{joining}

@@ -1,5 +1,4 @@
 -- The two rule books: what the theorems over a book ask, and what each book gives. Assumes nothing.
-use Prim.Native.Nat.{ℕ}
 use mathlib.Core.Path.{◌≡◌, refl}
 use Rattle.facts.specs.declared.Facts.{Facts}
 use Rattle.order.specs.declared.Book.{Book}

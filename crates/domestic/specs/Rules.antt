@@ -1,6 +1,6 @@
 -- The domestic book, RC A-B 7a no 1 with its booklets 3 (ME) and 4 (MA) (request Six): its rules, one line a rule, its number and article beside it.
 -- H is the hauled mass, L the train's length, "long" braked as a long locomotive (1403.2).
-use Rattle.std.specs.Prelude.{ℕ, Bool, false, not, ◌&&◌, ◌||◌, cond, List, [], ◌∷◌}
+use Rattle.std.specs.Prelude.{ℕ, not, ◌&&◌, ◌||◌, cond, List, [], ◌∷◌}
 use Rattle.lists.specs.Words.{◌is◌, ◌above◌, ◌at_most◌}
 use Rattle.facts.specs.declared.Facts.{Facts}
 use Rattle.order.specs.declared.Order.{Order}

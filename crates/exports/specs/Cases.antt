@@ -1,7 +1,6 @@
 -- include/prskavon.h: number + 256 * place + 4294967296 * category, and the room that is needed, case by case.
 use Rattle.std.specs.Prelude.{ℕ, List, [], ◌∷◌}
 use Rattle.account.specs.Accounts.{empty}
-use Rattle.account.specs.declared.Accounted.{Accounted}
 use Rattle.account.specs.declared.Answer as account
 use Rattle.account.specs.declared.Answer.TheVariants as accounted
 use Rattle.judge.specs.declared.Answer.TheVariants.{Done, NotWhole, BadField, BadOrder, NothingHauled}

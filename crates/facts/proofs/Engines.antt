@@ -16,7 +16,6 @@ use Rattle.record.specs.declared.vehicle.Vehicle.{Vehicle}
 use Rattle.record.specs.declared.vehicle.Reading.TheVariants.{Good, Bad}
 use Rattle.lists.proofs.Lists.{both}
 use Rattle.record.proofs.Vehicles.{at_most, reading_good, reading_bad, length_bad}
-use Rattle.lists.specs.Figures.{count}
 use Rattle.lists.proofs.Figures.{sum_append, count_append, some_append, least_append, cond_le}
 use Rattle.facts.specs.Engines.{engines_of, taken, engines_in, GoodEngines, both_of}
 use Rattle.facts.specs.declared.engine.Engines.{Engines}

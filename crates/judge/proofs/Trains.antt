@@ -19,7 +19,6 @@ use Rattle.account.specs.Accounts.{account_of}
 use Rattle.account.specs.Ceilings.{Within}
 use Rattle.account.specs.Answers.{number_of, done_with, refused_by}
 use Rattle.account.specs.Portions.{accounted}
-use Rattle.account.specs.Groupings.{Hauled, GoodHauled}
 use Rattle.account.specs.declared.Accounted.{Accounted}
 use Rattle.account.specs.declared.Answer.{Answer as Portion}
 use Rattle.account.specs.declared.Answer.TheVariants.{Done as PortionDone, NotWhole, TooMany, BadField, WorkingEngine, AboveCeiling}

@@ -7,7 +7,7 @@ use mathlib.Core.List.{List, ◌++◌}
 use borrow.Author.Tests.{ltb-false, not-false}
 use lib.Dec.{ltb}
 use lib.ListN.{length, drop}
-use Rattle.lists.specs.Words.{◌is◌, ◌above◌, all, Every, first_of}
+use Rattle.lists.specs.Words.{◌above◌, all, Every, first_of}
 use Rattle.record.specs.Records.{record_count, records_of}
 use Rattle.record.specs.Vehicles.{vehicles}
 use Rattle.lists.proofs.Lists.{lacking}

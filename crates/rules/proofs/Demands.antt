@@ -27,7 +27,6 @@ use Rattle.rules.specs.Withdrawn.{stood, former_book, longer_than_all, NotReache
 use Rattle.rules.specs.Grants.{offer, stands, offer_of, better_of, best_of, absent_rule, granted_of, decision_of, offers_from, MayBeGranted, Among, Offered, Stands, Granted, KeepsNumber, Standing}
 use Rattle.rules.specs.declared.grant.Offer.{Offer}
 use Rattle.rules.specs.declared.grant.Best.{Best}
-use Rattle.rules.specs.declared.rule.Terms.{Terms}
 use Rattle.rules.proofs.Grants as grants
 use Rattle.rules.proofs.Offers as offers
 use Rattle.rules.proofs.Offers.{may_offered, offered_may, is_granted}

@@ -1,14 +1,11 @@
 -- `account::join` meets its contract. Assumes nothing.
 use mathlib.Core.Path.{sym, ap, ap₂, ◌∙◌}
 use mathlib.Core.Bool.{◌&&◌}
-use borrow.Author.Tests.{not-true, not-false}
 use Rattle.lists.proofs.Lists.{both}
 use Rattle.account.specs.Ceilings.{within}
 use Rattle.account.specs.Answers.{done_with}
 use Rattle.account.proofs.Ceils.{test_within}
 use Rattle.account.proofs.Joins.{joined_above, joined_many, joined_done}
-use Rattle.std.proofs.Common.{arith}
-use borrow.Author.Rules.{rules}
 use Rattle.account.proofs.join.Goals as goal
 
 pub returns-then-not-is_within : goal.returns-then-not-is_within

@@ -6,7 +6,6 @@ use lib.ListN.{length}
 use Rattle.bench.specs.Texts.{field}
 use Rattle.bench.specs.Lines.{answer_fields}
 use Rattle.bench.proofs.Texts.{put_length, field_length, text_on}
-use borrow.Author.Rules.{rules}
 use Rattle.bench.proofs.put_answer.Goals as goal
 
 pub put_field-requires : goal.put_field-requires

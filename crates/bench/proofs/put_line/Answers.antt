@@ -5,7 +5,6 @@ use Rattle.bench.specs.Texts.{last_field}
 use Rattle.bench.specs.Lines.{answer_fields, line_by}
 use Rattle.bench.proofs.Texts.{put_length, text_on}
 use Rattle.bench.proofs.Lines.{answer_length}
-use borrow.Author.Rules.{rules}
 use Rattle.bench.proofs.put_line.Goals as goal
 
 pub put_last-requires : goal.put_last-requires

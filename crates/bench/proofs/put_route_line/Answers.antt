@@ -5,7 +5,6 @@ use Rattle.bench.specs.Lines.{answer_fields}
 use Rattle.bench.proofs.Texts.{put_length, field_length}
 use Rattle.bench.proofs.Lines.{answer_length}
 use Rattle.bench.proofs.Routes.{route_line_put}
-use borrow.Author.Rules.{rules}
 use Rattle.bench.proofs.put_route_line.Goals as goal
 
 pub put_field-behind_category-requires : goal.put_field-behind_category-requires

@@ -1,8 +1,6 @@
 -- `books::heavy` meets its contract. Assumes nothing.
 use mathlib.Core.Path.{refl}
 use Rattle.rules.specs.CrossBorder.{cross_border}
-use Rattle.std.proofs.Common.{arith}
-use borrow.Author.Rules.{rules}
 use Rattle.books.proofs.heavy.Goals as goal
 
 pub returns : goal.returns

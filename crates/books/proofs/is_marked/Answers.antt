@@ -1,7 +1,5 @@
 -- `books::is_marked` meets its contract, book by book. Assumes nothing.
 use Rattle.books.specs.Books.{book_of}
-use Rattle.std.proofs.Common.{arith}
-use borrow.Author.Rules.{rules}
 use Rattle.books.proofs.is_marked.Goals as goal
 
 pub returns-in-CrossBorder : goal.returns-in-CrossBorder

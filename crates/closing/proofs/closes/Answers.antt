@@ -4,8 +4,6 @@ use mathlib.Core.Path.{refl, ap}
 use Rattle.lists.specs.Words.{◌is◌}
 use Rattle.closing.specs.Closing.{closes as closing}
 use Rattle.closing.proofs.Sums.{twelve}
-use Rattle.std.proofs.Common.{arith}
-use borrow.Author.Rules.{rules}
 use Rattle.closing.proofs.closes.Goals as goal
 
 pub returns : goal.returns

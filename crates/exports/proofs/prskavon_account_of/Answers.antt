@@ -1,12 +1,9 @@
 -- `exports::prskavon_account_of` meets its contract: it lends the account library's. Assumes nothing.
-use mathlib.Core.Path.{ap, ◌∙◌}
+use mathlib.Core.Path.{ap}
 use native.Mathlib.Omega.{arith}
-use lib.ListN.{length}
 use Rattle.account.specs.Answers.{place_of}
 use Rattle.account.specs.declared.Accounted.{Accounted}
-use Rattle.exports.specs.Lent.{lent_number, lent_account}
 use Rattle.exports.proofs.Lent.{portion_place}
-use borrow.Author.Rules.{rules}
 use Rattle.exports.proofs.prskavon_account_of.Goals as goal
 
 pub lend-requires : goal.lend-requires

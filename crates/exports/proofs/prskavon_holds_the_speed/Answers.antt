@@ -4,8 +4,7 @@ use mathlib.Core.Path.{ap, ◌∙◌}
 use mathlib.Core.List.{List, ◌++◌}
 use native.Mathlib.Omega.{arith}
 use lib.ListN.{length, drop}
-use Rattle.exports.proofs.Lent.{copied, vehicle_fits, vehicle_none, vehicle_there}
-use borrow.Author.Rules.{rules}
+use Rattle.exports.proofs.Lent.{vehicle_fits, vehicle_none, vehicle_there}
 use Rattle.exports.proofs.prskavon_holds_the_speed.Goals as goal
 
 pub returns-then-vehicle-lt-SIZE : goal.returns-then-vehicle-lt-SIZE

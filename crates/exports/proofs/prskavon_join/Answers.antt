@@ -1,13 +1,9 @@
 -- `exports::prskavon_join` meets its contract: it lends the account library's. Assumes nothing.
-use mathlib.Core.Path.{ap, ap₂, ◌∙◌}
+use mathlib.Core.Path.{ap}
 use native.Mathlib.Omega.{arith}
-use lib.ListN.{length}
 use Rattle.account.specs.Answers.{place_of}
-use Rattle.account.specs.Portions.{joined}
 use Rattle.account.specs.declared.Accounted.{Accounted}
-use Rattle.exports.specs.Lent.{lent_number, lent_account}
 use Rattle.exports.proofs.Lent.{join_place}
-use borrow.Author.Rules.{rules}
 use Rattle.exports.proofs.prskavon_join.Goals as goal
 
 pub lend-requires : goal.lend-requires

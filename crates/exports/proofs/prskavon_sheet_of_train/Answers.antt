@@ -1,9 +1,5 @@
 -- `exports::prskavon_sheet_of_train` meets its contract: it is the judging library's. Assumes nothing.
-use mathlib.Core.Path.{ap, ◌∙◌}
-use Rattle.exports.specs.Lent.{sheet_number}
 use Rattle.exports.proofs.Lent.{train_place}
-use Rattle.std.proofs.Common.{arith}
-use borrow.Author.Rules.{rules}
 use Rattle.exports.proofs.prskavon_sheet_of_train.Goals as goal
 
 pub sheet_number-requires : goal.sheet_number-requires

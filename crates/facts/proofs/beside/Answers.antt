@@ -1,8 +1,6 @@
 -- `facts::beside` meets its contract, fact by fact. Assumes nothing.
 use Rattle.facts.specs.Engines.{both_of}
 use Rattle.facts.specs.Facts.{beside_of, held}
-use Rattle.std.proofs.Common.{arith}
-use borrow.Author.Rules.{rules}
 use Rattle.facts.proofs.beside.Goals as goal
 
 pub returns : goal.returns

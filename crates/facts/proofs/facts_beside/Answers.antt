@@ -4,13 +4,12 @@ use Prim.Native.Nat.{ℕ, ◌-◌, min}
 use mathlib.Core.Path.{◌≡◌, sym, ap, ap₂, ◌∙◌}
 use mathlib.Core.List.{List}
 use lib.ListN.{length, take, drop, length-drop}
-use lib.Seq.{take_all, length-take-le}
+use lib.Seq.{take_all}
 use Rattle.record.specs.Vehicles.{reading}
 use Rattle.facts.specs.Engines.{engines_of, taken, both_of, engines_in}
 use Rattle.facts.specs.Facts.{beside_of, held}
 use Rattle.facts.specs.declared.engine.Engines.{Engines}
 use Rattle.facts.proofs.Engines.{engines_append, first_cut, rest_cut}
-use borrow.Author.Rules.{rules}
 use Rattle.facts.proofs.facts_beside.Goals as goal
 
 pub returns : goal.returns

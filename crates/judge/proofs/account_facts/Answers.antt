@@ -1,10 +1,7 @@
 -- `judge::account_facts` meets its contract: three groups of refusals, then the facts that are held are the facts. Assumes nothing.
 use mathlib.Core.Path.{sym, ◌∙◌}
-use borrow.Author.Tests.{not-true, not-false}
 use Rattle.facts.proofs.Demands.{facts_held}
 use Rattle.judge.proofs.Engines.{account_first, account_second, account_third, account_ready, account_done}
-use Rattle.std.proofs.Common.{arith}
-use borrow.Author.Rules.{rules}
 use Rattle.judge.proofs.account_facts.Goals as goal
 
 pub returns-then-not-is_done : goal.returns-then-not-is_done

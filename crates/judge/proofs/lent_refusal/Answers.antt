@@ -1,8 +1,6 @@
 -- `judge::lent_refusal` meets its contract: the room is asked of a good order, which is read as its fields say. Assumes nothing.
 use mathlib.Core.Path.{◌∙◌}
 use Rattle.judge.proofs.Sheets.{order_tests_lem}
-use Rattle.std.proofs.Common.{arith}
-use borrow.Author.Rules.{rules}
 use Rattle.judge.proofs.lent_refusal.Goals as goal
 
 pub returns : goal.returns

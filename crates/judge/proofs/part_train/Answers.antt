@@ -7,7 +7,6 @@ use lib.Seq.{take_all, length-take-le}
 use Rattle.account.specs.Portions.{accounted}
 use Rattle.judge.specs.Answers.{is_done}
 use Rattle.judge.proofs.Trains.{parted_le, parted_good, parted_answer, parted_ready}
-use borrow.Author.Rules.{rules}
 use Rattle.judge.proofs.part_train.Goals as goal
 
 pub overflow_mul-split : goal.overflow_mul-split

@@ -1,12 +1,12 @@
 -- `judge::put_sheet` meets its contract: what stands in the sheet is what the facts give. Assumes nothing.
-use Prim.Native.Nat.{ℕ, ◌-◌}
+use Prim.Native.Nat.{ℕ}
 use native.Mathlib.Omega.{arith}
 use mathlib.Core.Path.{◌≡◌, sym, ap, ap₂, ◌∙◌}
 use mathlib.Core.List.{◌++◌}
 use lib.ListN.{length, take, drop}
 use lib.Seq.{length-take-le}
 use Rattle.judge.specs.Answers.{sheet_for}
-use Rattle.judge.specs.Judging.{answer_of, sheet_in, Roomy}
+use Rattle.judge.specs.Judging.{sheet_in}
 use Rattle.judge.specs.declared.Judged.{Judged}
 use Rattle.sheets.proofs.Demands.{sheet_in_most}
 use Rattle.judge.proofs.Sheets.{length_most}

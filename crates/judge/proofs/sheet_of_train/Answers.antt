@@ -3,8 +3,6 @@ use mathlib.Core.Path.{◌∙◌, sym, ap, subst}
 use Rattle.order.specs.declared.Order.{Order}
 use Rattle.judge.specs.Judging.{sheet_in, Roomy}
 use Rattle.judge.proofs.Sheets.{train_room, train_answer_lem, train_sheet_lem}
-use Rattle.std.proofs.Common.{arith}
-use borrow.Author.Rules.{rules}
 use Rattle.judge.proofs.sheet_of_train.Goals as goal
 
 pub put_sheet-requires : goal.put_sheet-requires

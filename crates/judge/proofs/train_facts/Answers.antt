@@ -1,14 +1,10 @@
 -- `judge::train_facts` meets its contract: the groups of refusals, then the facts of its two parts. Assumes nothing.
-use native.Mathlib.Omega.{arith}
 use mathlib.Core.Path.{◌≡◌, sym, ◌∙◌}
 use mathlib.Core.Bool.{true}
-use borrow.Author.Tests.{not-true, not-false}
-use lib.Seq.{length-take-le}
 use Rattle.facts.proofs.Demands.{facts_held}
 use Rattle.judge.specs.Answers.{is_done}
 use Rattle.judge.specs.Judging.{GoodRecords, Parts}
 use Rattle.judge.proofs.Trains.{record_answer, count_first, field_next, train_first, train_good, train_second, train_third, train_done}
-use borrow.Author.Rules.{rules}
 use Rattle.judge.proofs.train_facts.Goals as goal
 use Rattle.judge.proofs.train_facts.Goals.{After-field_refusal_unless-fields, Else-not-is_done-2, Else-not-is_done-3, Else-not-is_done-4}
 

@@ -2,8 +2,6 @@
 use native.Mathlib.Omega.{arith}
 use mathlib.Core.Path.{refl}
 use Rattle.margin.specs.Margin.{fourfold}
-
-use borrow.Author.Rules.{rules}
 use Rattle.margin.proofs.four_times.Goals as goal
 
 pub returns : goal.returns

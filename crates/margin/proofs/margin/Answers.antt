@@ -1,5 +1,5 @@
 -- `margin::margin` meets its contract: no product is near 2 ^ 63, so the difference is read back as it is.
-use Rattle.std.proofs.Common.{◌≡◌, ℕ, ◌<◌, ◌+◌, ◌*◌, ◌^◌, ℤ, pos, sym, ◌∙◌, arith, w64, of_z, to_z}
+use Rattle.std.proofs.Common.{◌≡◌, ℕ, ◌<◌, ◌+◌, ◌*◌, ◌^◌, pos, sym, ◌∙◌, arith, w64, of_z, to_z}
 use Rattle.std.specs.Prelude.{◌-ℤ◌}
 use Rattle.std.proofs.lemmas.Int.{to_z-of_z, to_z_pos}
 use Rattle.margin.specs.Margin.{fourfold}

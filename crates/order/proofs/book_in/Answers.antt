@@ -1,8 +1,6 @@
 -- `order::book_in` meets its contract, by the length and byte 7. Assumes nothing.
 use native.Mathlib.Omega.{arith}
 use Rattle.order.proofs.Orders.{book_short, book_one, book_other}
-
-use borrow.Author.Rules.{rules}
 use Rattle.order.proofs.book_in.Goals as goal
 
 pub returns-then-order-le7 : goal.returns-then-order-le7

@@ -1,10 +1,8 @@
 -- `order::is_good_order` meets its contract: the code's table is the book's. Assumes nothing.
-use mathlib.Core.Path.{refl, sym, ap, ◌∙◌}
+use mathlib.Core.Path.{sym, ap, ◌∙◌}
 use Rattle.record.specs.Ranges.{in_ranges}
 use Rattle.order.specs.Orders.{fields_of, good_order}
 use Rattle.order.specs.declared.Book.{Book}
-use Rattle.std.proofs.Common.{arith}
-use borrow.Author.Rules.{rules}
 use Rattle.order.proofs.is_good_order.Goals as goal
 
 pub returns-in-CrossBorder : goal.returns-in-CrossBorder

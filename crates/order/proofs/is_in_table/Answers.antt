@@ -6,8 +6,6 @@ use Rattle.record.specs.Ranges.{Field, good_by}
 use Rattle.record.proofs.Demands.{ranges_alone}
 use Rattle.order.specs.Orders.{fields_of}
 use Rattle.order.proofs.Orders.{all_placed}
-use Rattle.std.proofs.Common.{arith}
-use borrow.Author.Rules.{rules}
 use Rattle.order.proofs.is_in_table.Goals as goal
 
 pub returns : goal.returns

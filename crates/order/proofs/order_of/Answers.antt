@@ -9,8 +9,6 @@ use Rattle.record.specs.Ranges.{field}
 use Rattle.record.proofs.Tables.{part_value, value_below}
 use Rattle.order.specs.Orders.{order_of}
 use Rattle.lists.proofs.Numbers.{number_one}
-
-use borrow.Author.Rules.{rules}
 use Rattle.order.proofs.order_of.Goals as goal
 
 pub overflow_cast-result : goal.overflow_cast-result

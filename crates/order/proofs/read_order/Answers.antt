@@ -1,8 +1,6 @@
 -- `order::read_order` meets its contract, by the length. Assumes nothing.
 use mathlib.Core.Path.{sym, ◌∙◌}
 use Rattle.order.proofs.Orders.{read_long, read_short}
-use Rattle.std.proofs.Common.{arith}
-use borrow.Author.Rules.{rules}
 use Rattle.order.proofs.read_order.Goals as goal
 
 pub returns-then-order-ne-SIZE : goal.returns-then-order-ne-SIZE

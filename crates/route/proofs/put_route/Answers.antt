@@ -7,8 +7,6 @@ use Rattle.judge.specs.declared.Answer.TheVariants.{Done}
 use Rattle.judge.specs.declared.Judged.{Judged}
 use Rattle.route.specs.Answers.{book_for, granted_for, speeds_for}
 use Rattle.route.specs.Giving.{route_in, speeds_in}
-use Rattle.std.proofs.Common.{arith}
-use borrow.Author.Rules.{rules}
 use Rattle.route.proofs.put_route.Goals as goal
 
 pub returns-in-Ready : goal.returns-in-Ready

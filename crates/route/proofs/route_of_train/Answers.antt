@@ -1,8 +1,6 @@
 -- `route::route_of_train` meets its contract: what is judged is shown. Assumes nothing.
 use mathlib.Core.Path.{◌∙◌}
 use Rattle.route.proofs.Routes.{train_route_lem, train_speeds_lem}
-use Rattle.std.proofs.Common.{arith}
-use borrow.Author.Rules.{rules}
 use Rattle.route.proofs.route_of_train.Goals as goal
 
 pub returns : goal.returns

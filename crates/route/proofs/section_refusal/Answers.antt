@@ -1,9 +1,7 @@
 -- `route::section_refusal` meets its contract: test by test. Assumes nothing.
 use mathlib.Core.Path.{sym, ◌∙◌}
 use borrow.Author.Tests.{lt-ltb, le-ltb}
-use Rattle.route.proofs.Routes.{refused_whole, refused_section, refused_room, none_refused, some_bad_lem}
-use Rattle.std.proofs.Common.{arith}
-use borrow.Author.Rules.{rules}
+use Rattle.route.proofs.Routes.{refused_section, refused_room, none_refused, some_bad_lem}
 use Rattle.route.proofs.section_refusal.Goals as goal
 
 pub returns-then-place-n : goal.returns-then-place-n

@@ -10,8 +10,6 @@ use Rattle.margin.specs.Margin.{tonnes_of, bytes_of}
 use Rattle.books.proofs.Demands.{book_rows}
 use Rattle.sheets.specs.Sheets.{common_by, figures_of}
 use Rattle.sheets.proofs.Sheets.{common_there}
-use Rattle.std.proofs.Common.{arith}
-use borrow.Author.Rules.{rules}
 use Rattle.sheets.proofs.figures_of.Goals as goal
 
 pub returns : goal.returns

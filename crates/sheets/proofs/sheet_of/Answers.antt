@@ -1,12 +1,8 @@
 -- `sheets::sheet_of` meets its contract: head and tail of the figures, laid as the book has them. Assumes nothing.
-use Prim.Native.Nat.{ℕ}
 use mathlib.Core.Path.{ap, ◌∙◌}
-use mathlib.Core.List.{List}
 use Rattle.sheets.specs.Sheets.{head_bytes, tail_bytes, laid}
 use Rattle.sheets.specs.declared.Sheet.{Sheet}
 use Rattle.sheets.proofs.Sheets.{laid_sheet}
-use Rattle.std.proofs.Common.{arith}
-use borrow.Author.Rules.{rules}
 use Rattle.sheets.proofs.sheet_of.Goals as goal
 
 pub returns : goal.returns

@@ -1,11 +1,8 @@
 -- `speed::holds_the_speed` meets its contract: each way out is one case of the definition. Assumes nothing.
 use mathlib.Core.Path.{sym, ap₂, ◌∙◌}
 use mathlib.Core.Bool.{◌&&◌}
-use borrow.Author.Tests.{not-true, not-false}
 use Rattle.speed.proofs.Speeds.{speed_bad, speed_many, speed_empty, speed_found}
 use native.Mathlib.Omega.{arith}
-
-use borrow.Author.Rules.{rules}
 use Rattle.speed.proofs.holds_the_speed.Goals as goal
 
 pub returns-then-not-is_whole_good : goal.returns-then-not-is_whole_good

@@ -3,8 +3,6 @@ use mathlib.Core.Path.{sym, ap, ◌∙◌}
 use borrow.Author.Tests.{eq-eqb, ne_eqb}
 use Rattle.record.proofs.Vehicles.{is_nothing, bad_is}
 use Rattle.speed.specs.Speed.{whole_good}
-use Rattle.std.proofs.Common.{arith}
-use borrow.Author.Rules.{rules}
 use Rattle.speed.proofs.is_whole_good.Goals as goal
 
 pub returns-then-portion-ne0 : goal.returns-then-portion-ne0

@@ -5,8 +5,6 @@ use mathlib.Core.Path.{◌∙◌}
 use Rattle.record.specs.Records.{record_count}
 use Rattle.record.proofs.Records.{part_record}
 use Rattle.speed.proofs.Speeds.{record_front, record_back}
-
-use borrow.Author.Rules.{rules}
 use Rattle.speed.proofs.record_at.Goals as goal
 
 pub returns-then-k-ahead : goal.returns-then-k-ahead

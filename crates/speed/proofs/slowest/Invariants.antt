@@ -1,14 +1,10 @@
 -- `speed::slowest` meets its contract: `best` holds the speed of the records before `k`. Assumes nothing.
-use Prim.Native.Nat.{◌-◌, ◌≤◌, ◌<◌}
-use native.Mathlib.Omega.{arith}
-use mathlib.Core.Path.{◌≡◌, ap, ◌∙◌}
+use Prim.Native.Nat.{◌-◌, ◌≤◌}
+use mathlib.Core.Path.{◌≡◌}
 use mathlib.Core.List.{◌++◌}
-use mathlib.Core.Logic.{⊎_elim}
 use lib.ListN.{length, take}
-use lib.Seq.{take_all}
 use Rattle.record.specs.Records.{records_of}
 use Rattle.speed.specs.Speed.{slowest_of}
-use Rattle.speed.proofs.Speeds.{next_taken, best_kept, slowest_alone, record_24, length_two}
 use Rattle.speed.proofs.slowest.Given as goal
 
 abbrev pub invariant-loop-k : goal.invariant-loop-k

@@ -2,8 +2,6 @@
 use mathlib.Core.Path.{refl}
 use Rattle.lists.specs.Numbers.{little_endian}
 use Rattle.travel.specs.AccountRecords.{account_in}
-use Rattle.std.proofs.Common.{arith}
-use borrow.Author.Rules.{rules}
 use Rattle.travel.proofs.above_ceiling.Goals as goal
 
 pub returns : goal.returns

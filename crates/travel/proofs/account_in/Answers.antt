@@ -1,7 +1,5 @@
 -- `travel::account_in` meets its contract, figure by figure. Assumes nothing.
-use native.Mathlib.Omega.{arith}
 use Rattle.travel.specs.AccountRecords.{account_in}
-use borrow.Author.Rules.{rules}
 use Rattle.travel.proofs.account_in.Goals as goal
 
 pub returns : goal.returns

@@ -3,7 +3,6 @@ use mathlib.Core.Path.{◌∙◌}
 use native.Mathlib.Omega.{arith}
 use Rattle.record.specs.Ranges.{field}
 use Rattle.record.proofs.Tables.{part_value, value_below}
-use borrow.Author.Rules.{rules}
 use Rattle.travel.proofs.figure.Goals as goal
 
 pub overflow_cast-result : goal.overflow_cast-result

@@ -1,8 +1,6 @@
 -- `travel::first_in` meets its contract. Assumes nothing.
 use mathlib.Core.List.{[], ◌∷◌}
 use Rattle.travel.specs.AccountRecords.{account_in}
-use Rattle.std.proofs.Common.{arith}
-use borrow.Author.Rules.{rules}
 use Rattle.travel.proofs.first_in.Goals as goal
 
 pub returns : goal.returns

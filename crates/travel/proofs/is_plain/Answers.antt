@@ -1,7 +1,5 @@
 -- `travel::is_plain` meets its contract: its comparisons are the definition's. Assumes nothing.
 use Rattle.travel.proofs.AccountRecords.{plain_short, plain_long}
-use Rattle.std.proofs.Common.{arith}
-use borrow.Author.Rules.{rules}
 use Rattle.travel.proofs.is_plain.Goals as goal
 
 pub returns-then-bytes-ne-SIZE : goal.returns-then-bytes-ne-SIZE

@@ -1,13 +1,8 @@
 -- `travel::is_rest_unused` meets its contract: what was asked, and what is left, make the whole. Assumes nothing.
-use Prim.Native.Nat.{◌-◌, ◌≤◌}
-use mathlib.Core.Path.{◌≡◌, refl, sym, ◌∙◌}
-use mathlib.Core.Bool.{◌&&◌}
+use mathlib.Core.Path.{sym, ◌∙◌}
 use native.Mathlib.Omega.{arith}
-use lib.ListN.{drop}
-use Rattle.lists.specs.Words.{◌is◌, all}
-use Rattle.travel.specs.AccountRecords.{size, unused_in}
+use Rattle.lists.specs.Words.{◌is◌}
 use Rattle.travel.proofs.AccountRecords.{one_more, all_asked}
-use borrow.Author.Rules.{rules}
 use Rattle.travel.proofs.is_rest_unused.Goals as goal
 
 pub loop-i-preserved : goal.loop-i-preserved

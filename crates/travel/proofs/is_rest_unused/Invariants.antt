@@ -1,12 +1,10 @@
 -- `travel::is_rest_unused` meets its contract: what was asked, and what is left, make the whole. Assumes nothing.
 use Prim.Native.Nat.{◌-◌, ◌≤◌}
-use mathlib.Core.Path.{◌≡◌, refl, sym, ◌∙◌}
+use mathlib.Core.Path.{◌≡◌}
 use mathlib.Core.Bool.{◌&&◌}
-use native.Mathlib.Omega.{arith}
 use lib.ListN.{drop}
 use Rattle.lists.specs.Words.{◌is◌, all}
 use Rattle.travel.specs.AccountRecords.{size, unused_in}
-use Rattle.travel.proofs.AccountRecords.{one_more, all_asked}
 use Rattle.travel.proofs.is_rest_unused.Given as goal
 
 abbrev pub invariant-loop-i : goal.invariant-loop-i

@@ -2,8 +2,6 @@
 use mathlib.Core.Path.{sym, ◌∙◌}
 use mathlib.Core.Bool.{true, false}
 use Rattle.travel.proofs.AccountRecords.{long_plain, offered_by_test}
-use Rattle.std.proofs.Common.{arith}
-use borrow.Author.Rules.{rules}
 use Rattle.travel.proofs.offered_by.Goals as goal
 
 pub account_in-requires : goal.account_in-requires

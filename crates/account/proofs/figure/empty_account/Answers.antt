@@ -1,8 +1,6 @@
 -- `account::figure::empty_account` meets its contract. Assumes nothing.
 use mathlib.Core.Path.{refl}
 use Rattle.account.specs.Accounts.{account_of}
-use Rattle.std.proofs.Common.{arith}
-use borrow.Author.Rules.{rules}
 use Rattle.account.proofs.figure.empty_account.Goals as goal
 
 pub returns : goal.returns

@@ -1,7 +1,5 @@
 -- `account::figure::is_within` meets its contract: the code's comparisons, one after the other, are the table's. Assumes nothing.
 use Rattle.account.proofs.Ceils.{chain_within}
-use Rattle.std.proofs.Common.{arith}
-use borrow.Author.Rules.{rules}
 use Rattle.account.proofs.figure.is_within.Goals as goal
 
 pub returns : goal.returns

@@ -14,7 +14,6 @@ use Rattle.record.proofs.Vehicles.{length_vehicles}
 use Rattle.lists.proofs.Figures.{leading_le, some_count, lack_count}
 use Rattle.account.proofs.Joins.{each_hauled}
 use Rattle.account.proofs.Gathers.{behind_ahead}
-use borrow.Author.Rules.{rules}
 use Rattle.account.proofs.gather.account_from.Goals as goal
 
 pub overflow_cast-leading : goal.overflow_cast-leading

@@ -1,8 +1,6 @@
 -- `account::gather::none_yet` meets its contract. Assumes nothing.
 use mathlib.Core.Path.{refl}
 use Rattle.account.specs.Gathering.{running_of}
-use Rattle.std.proofs.Common.{arith}
-use borrow.Author.Rules.{rules}
 use Rattle.account.proofs.gather.none_yet.Goals as goal
 
 pub returns : goal.returns

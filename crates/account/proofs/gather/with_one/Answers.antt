@@ -1,9 +1,7 @@
 -- `account::gather::with_one` meets its contract, figure by figure. Assumes nothing.
 use Prim.Native.Nat.{◌+◌, max}
 use mathlib.Core.Path.{ap, ◌∙◌}
-use native.Mathlib.Omega.{arith}
 use Rattle.account.specs.Gathering.{with_one}
-use borrow.Author.Rules.{rules}
 use Rattle.account.proofs.gather.with_one.Goals as goal
 
 pub returns : goal.returns

@@ -1,10 +1,7 @@
 -- `account::joining::add` meets its contract: figures within their ceilings add without wrapping. Assumes nothing.
 use Prim.Native.Nat.{max}
-use native.Mathlib.Omega.{arith}
 use mathlib.Core.Path.{ap₂, ◌∙◌}
 use Rattle.account.specs.Joining.{joining}
-use Rattle.account.proofs.Ceils.{figure_at_lem}
-use borrow.Author.Rules.{rules}
 use Rattle.account.proofs.joining.add.Goals as goal
 
 pub returns : goal.returns

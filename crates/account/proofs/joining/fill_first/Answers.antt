@@ -1,7 +1,7 @@
 -- `account::joining::fill_first` meets its contract: after the turns before `i` the right's settings stand from `n` to `i`. Assumes nothing.
 use Prim.Native.Nat.{ℕ, suc, ◌+◌, ◌-◌, ◌≤◌, ◌<◌}
 use native.Mathlib.Omega.{arith}
-use mathlib.Core.Path.{◌≡◌, refl, sym, ap, ◌∙◌}
+use mathlib.Core.Path.{◌≡◌, sym, ap, ◌∙◌}
 use mathlib.Core.List.{List, ◌++◌, append-nil}
 use lib.ListN.{length, get_or, set, take, drop_of_length-le}
 use lib.Seq.{paste, paste-zero, paste-suc, take_all, take_at, length-take-le, take-append-add}

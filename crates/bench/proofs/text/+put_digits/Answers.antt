@@ -1,5 +1,5 @@
 -- `bench::text::put_digits` meets its contract: the last digit goes behind those in front of it.
-use Rattle.std.proofs.Common.{ℕ, ◌+◌, ◌-◌, ◌/◌, List, [], ◌∷◌, ◌++◌, length, sym, ap, ◌∙◌, arith}
+use Rattle.std.proofs.Common.{ℕ, ◌-◌, ◌/◌, [], ◌∷◌, ◌++◌, length, sym, ap, ◌∙◌, arith}
 use lib.Seq.{length-sets}
 use Rattle.bench.specs.Texts.{digits}
 use Rattle.bench.proofs.Texts.{digits_length, digits_more, byte_behind}

@@ -4,7 +4,6 @@ use mathlib.Core.Path.{refl}
 use mathlib.Core.List.{List, [], ◌∷◌}
 use Rattle.bench.specs.Texts.{glyph_of}
 use Rattle.bench.proofs.Tables.{at_place}
-use Rattle.std.proofs.Common.{arith}
 use borrow.Author.Rules.{rules}
 use Rattle.bench.proofs.text.glyph.Goals as goal
 

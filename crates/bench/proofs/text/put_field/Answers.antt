@@ -1,9 +1,7 @@
 -- `bench::text::put_field` meets its contract. Assumes nothing.
 use mathlib.Core.Path.{refl}
-use native.Mathlib.Omega.{arith}
 use Rattle.bench.specs.Texts.{digits, decimal, field}
-use Rattle.bench.proofs.Texts.{put_length, digits_length, byte_behind}
-use borrow.Author.Rules.{rules}
+use Rattle.bench.proofs.Texts.{byte_behind}
 use Rattle.bench.proofs.text.put_field.Goals as goal
 
 pub returns : goal.returns

@@ -1,13 +1,10 @@
 -- `bench::text::put_hex` meets its contract: the hex of the first `i` bytes stands in the line. Assumes nothing.
-use Prim.Native.Nat.{ℕ, ◌+◌, ◌*◌, ◌-◌, ◌/◌, ◌%◌, ◌≤◌}
-use mathlib.Core.List.{List}
-use mathlib.Core.Path.{◌≡◌, refl, ap, ◌∙◌}
+use Prim.Native.Nat.{ℕ, ◌+◌, ◌*◌, ◌/◌, ◌%◌}
+use mathlib.Core.Path.{ap, ◌∙◌}
 use native.Mathlib.Omega.{arith}
-use lib.ListN.{length, take, set, length-set}
-use lib.Seq.{sets, take_all}
-use Rattle.bench.specs.Texts.{glyph_of, hex}
+use lib.ListN.{set, length-set}
+use Rattle.bench.specs.Texts.{glyph_of}
 use Rattle.bench.proofs.Texts.{hex_length, hex_put}
-use borrow.Author.Rules.{rules}
 use Rattle.bench.proofs.text.put_hex.Goals as goal
 
 pub loop-i-preserved : goal.loop-i-preserved

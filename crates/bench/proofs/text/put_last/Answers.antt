@@ -3,7 +3,6 @@ use mathlib.Core.Path.{refl}
 use native.Mathlib.Omega.{arith}
 use Rattle.bench.specs.Texts.{bytes_text, last_field}
 use Rattle.bench.proofs.Texts.{put_length, bytes_length, byte_behind}
-use borrow.Author.Rules.{rules}
 use Rattle.bench.proofs.text.put_last.Goals as goal
 
 pub bounds-line-behind : goal.bounds-line-behind

@@ -1,7 +1,5 @@
 -- `categories::brake::braked_of` meets its contract: what is left of the parts of Q after k. Assumes nothing.
 use Rattle.categories.specs.Brakes.{braked_of}
-use Rattle.std.proofs.Common.{arith}
-use borrow.Author.Rules.{rules}
 use Rattle.categories.proofs.brake.braked_of.Goals as goal
 
 pub returns : goal.returns

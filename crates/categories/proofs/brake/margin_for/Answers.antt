@@ -1,9 +1,7 @@
 -- `categories::brake::margin_for` meets its contract: the margin of the parts of Q, k and p. Assumes nothing.
 use mir.Facts.{to_z-of_z}
-use borrow.Author.Rules.{sfits_of, rules}
+use borrow.Author.Rules.{sfits_of}
 use Rattle.categories.specs.Brakes.{margin_for}
-use Rattle.std.proofs.Common.{arith}
-use borrow.Author.Rules.{rules}
 use Rattle.categories.proofs.brake.margin_for.Goals as goal
 
 pub returns : goal.returns

@@ -6,8 +6,6 @@ use Rattle.rules.specs.Grants.{offer_of, decided_by, granted_of, decision_of}
 use Rattle.rules.specs.declared.grant.Offer.{Offer}
 use Rattle.rules.specs.declared.grant.Decision.{Decision}
 use Rattle.domestic.specs.Rules.{domestic}
-use Rattle.std.proofs.Common.{arith}
-use borrow.Author.Rules.{rules}
 use Rattle.domestic.proofs.grant.decide_domestic.Goals as goal
 
 abbrev of_six : ℕ → Offer → Offer → Offer → Offer → Offer → Offer → Decision

@@ -3,8 +3,6 @@ use Prim.Native.Nat.{ℕ, min}
 use mathlib.Core.Path.{ap, ◌∙◌}
 use Rattle.categories.specs.Categories.{speed_of}
 use Rattle.rules.specs.Grants.{offer_of}
-use Rattle.std.proofs.Common.{arith}
-use borrow.Author.Rules.{rules}
 use Rattle.domestic.proofs.grant.offered_me.Goals as goal
 
 pub returns : goal.returns

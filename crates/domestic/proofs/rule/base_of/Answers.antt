@@ -6,7 +6,6 @@ use Rattle.domestic.specs.Rules.{domestic_rules}
 use Rattle.domestic.specs.Words.{word_of, still_of, base_of}
 use Rattle.domestic.specs.declared.rule.Terms.{Terms}
 use Rattle.domestic.proofs.Words.{word_lt}
-use borrow.Author.Rules.{rules}
 use Rattle.domestic.proofs.rule.base_of.Goals as goal
 
 pub returns : goal.returns

@@ -8,8 +8,6 @@ use Rattle.domestic.specs.Rules.{domestic_rules, terms_of}
 use Rattle.domestic.specs.Words.{family_of, own_ma}
 use Rattle.domestic.specs.declared.rule.Family.{Family}
 use Rattle.domestic.proofs.Rules.{ma_first}
-use Rattle.std.proofs.Common.{arith}
-use borrow.Author.Rules.{rules}
 use Rattle.domestic.proofs.rule.broken_by_ma.Goals as goal
 
 pub returns : goal.returns

@@ -1,7 +1,5 @@
 -- `domestic::rule::family_of` meets its contract, part by part. Assumes nothing.
 use Rattle.domestic.specs.Words.{family_of}
-use Rattle.std.proofs.Common.{arith}
-use borrow.Author.Rules.{rules}
 use Rattle.domestic.proofs.rule.family_of.Goals as goal
 
 pub returns : goal.returns

@@ -3,8 +3,6 @@ use mir.Facts.{to_z-of_z}
 use borrow.Author.Rules.{sfits_of}
 use Rattle.categories.specs.Brakes.{margin_for}
 use Rattle.domestic.specs.Words.{family_of}
-use Rattle.std.proofs.Common.{arith}
-use borrow.Author.Rules.{rules}
 use Rattle.domestic.proofs.rule.is_short.Goals as goal
 
 pub returns : goal.returns

@@ -2,7 +2,6 @@
 use native.Mathlib.Omega.{arith}
 use lib.Count.{count_trailing_zeros}
 use Rattle.domestic.proofs.Words.{rising_at, rising_past}
-use borrow.Author.Rules.{rules}
 use Rattle.domestic.proofs.rule.number_at.Goals as goal
 
 pub returns-then-place-lt29 : goal.returns-then-place-lt29

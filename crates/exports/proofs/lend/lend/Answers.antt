@@ -1,7 +1,6 @@
 -- `exports::lend::lend` meets its contract. Assumes nothing.
 use mathlib.Core.Path.{◌∙◌}
-use Rattle.exports.proofs.Lent.{copied, lent_refused, lent_short, lent_done}
-use Rattle.std.proofs.Common.{arith}
+use Rattle.exports.proofs.Lent.{lent_refused, lent_short, lent_done}
 use Rattle.std.proofs.Common.{ℕ, List, ◌++◌, length, drop, ap}
 use Rattle.exports.proofs.lend.lend.Goals as goal
 

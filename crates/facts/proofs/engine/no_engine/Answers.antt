@@ -1,8 +1,6 @@
 -- `facts::engine::no_engine` meets its contract. Assumes nothing.
 use mathlib.Core.Path.{refl}
 use Rattle.facts.specs.Engines.{engines_of}
-use Rattle.std.proofs.Common.{arith}
-use borrow.Author.Rules.{rules}
 use Rattle.facts.proofs.engine.no_engine.Goals as goal
 
 pub returns : goal.returns

@@ -4,8 +4,6 @@ use mathlib.Core.Path.{sym, ◌∙◌}
 use mathlib.Core.Bool.{not, cond, or-false}
 use Rattle.record.specs.Vehicles.{is_isolated, is_m, is_v, is_r, is_joined, has_d_load}
 use Rattle.facts.specs.Engines.{engines_of}
-use Rattle.std.proofs.Common.{arith}
-use borrow.Author.Rules.{rules}
 use Rattle.facts.proofs.engine.one_engine.Goals as goal
 
 pub returns : goal.returns

@@ -6,8 +6,6 @@ use Rattle.record.specs.Records.{records_of}
 use Rattle.record.specs.Vehicles.{good}
 use Rattle.record.proofs.Vehicles.{is_nothing, bad_is, bad_place}
 use Rattle.judge.specs.declared.Answer.TheVariants.{Done, BadField}
-use Rattle.std.proofs.Common.{arith}
-use borrow.Author.Rules.{rules}
 use Rattle.judge.proofs.refusal.field_refusal.Goals as goal
 
 pub returns-in-At : goal.returns-in-At

@@ -7,7 +7,6 @@ use lib.ListN.{length, get_or, take, drop, length-take, length-drop, drop_of_len
 use lib.Seq.{get_or-take}
 use Rattle.lists.specs.Numbers.{little_endian}
 use Rattle.lists.proofs.Numbers.{Bytes, bytes_take, bytes_drop, number_below, number_down}
-use borrow.Author.Rules.{rules}
 use Rattle.lists.proofs.number.number.Goals as goal
 
 -- what the loop has read fits seven bytes, and one byte more makes the next number

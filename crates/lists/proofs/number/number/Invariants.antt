@@ -1,12 +1,8 @@
 -- `lists::number::number` meets its contract: `x` is the number of the bytes from `k` on. Assumes nothing.
-use Prim.Native.Nat.{ℕ, ◌≤◌, ◌<◌, ◌-◌, ◌+◌, ◌*◌, ◌^◌, min}
+use Prim.Native.Nat.{◌≤◌}
 use mathlib.Core.Path.{◌≡◌}
-use mathlib.Core.List.{List}
-use native.Mathlib.Omega.{arith}
-use lib.ListN.{length, get_or, take, drop, length-take, length-drop, drop_of_length-le}
-use lib.Seq.{get_or-take}
+use lib.ListN.{take, drop}
 use Rattle.lists.specs.Numbers.{little_endian}
-use Rattle.lists.proofs.Numbers.{Bytes, bytes_take, bytes_drop, number_below, number_down}
 use Rattle.lists.proofs.number.number.Given as goal
 
 abbrev pub invariant-loop-k : goal.invariant-loop-k

@@ -1,7 +1,6 @@
 -- `record::byte::eight` meets its contract: 4 bytes, and 4 more. Assumes nothing.
 use native.Mathlib.Omega.{arith}
 use Rattle.lists.proofs.Numbers.{number_more}
-use borrow.Author.Rules.{rules}
 use Rattle.record.proofs.byte.eight.Goals as goal
 
 pub returns : goal.returns

@@ -1,7 +1,6 @@
 -- `record::byte::four` meets its contract: 2 bytes, and 2 more. Assumes nothing.
 use native.Mathlib.Omega.{arith}
 use Rattle.lists.proofs.Numbers.{number_more}
-use borrow.Author.Rules.{rules}
 use Rattle.record.proofs.byte.four.Goals as goal
 
 pub returns : goal.returns

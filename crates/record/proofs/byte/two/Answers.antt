@@ -2,7 +2,6 @@
 use Prim.Native.Nat.{◌+◌}
 use native.Mathlib.Omega.{arith}
 use Rattle.lists.proofs.Numbers.{number_one, number_more}
-use borrow.Author.Rules.{rules}
 use Rattle.record.proofs.byte.two.Goals as goal
 
 pub returns : goal.returns

@@ -1,14 +1,9 @@
 -- `record::ranges::are_placed` meets its contract: the rows before `f` are placed. Assumes nothing.
-use Prim.Native.Nat.{◌-◌, ◌≤◌}
-use mathlib.Core.Path.{◌≡◌, refl, sym, ◌∙◌}
-use mathlib.Core.Bool.{true}
+use mathlib.Core.Path.{refl, sym, ◌∙◌}
 use native.Mathlib.Omega.{arith}
-use borrow.Author.Tests.{not-true, not-false}
-use lib.ListN.{length, take}
 use Rattle.lists.specs.Words.{all}
-use Rattle.record.specs.Ranges.{table_of, placed}
-use Rattle.record.proofs.Tables.{rows_more, rows_end, rows_not}
-use borrow.Author.Rules.{rules}
+use Rattle.record.specs.Ranges.{placed}
+use Rattle.record.proofs.Tables.{rows_more, rows_not}
 use Rattle.record.proofs.ranges.are_placed.Goals as goal
 
 pub loop-f-init : goal.loop-f-init

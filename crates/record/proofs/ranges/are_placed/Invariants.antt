@@ -1,13 +1,10 @@
 -- `record::ranges::are_placed` meets its contract: the rows before `f` are placed. Assumes nothing.
 use Prim.Native.Nat.{◌-◌, ◌≤◌}
-use mathlib.Core.Path.{◌≡◌, refl, sym, ◌∙◌}
+use mathlib.Core.Path.{◌≡◌}
 use mathlib.Core.Bool.{true}
-use native.Mathlib.Omega.{arith}
-use borrow.Author.Tests.{not-true, not-false}
 use lib.ListN.{length, take}
 use Rattle.lists.specs.Words.{all}
 use Rattle.record.specs.Ranges.{table_of, placed}
-use Rattle.record.proofs.Tables.{rows_more, rows_end, rows_not}
 use Rattle.record.proofs.ranges.are_placed.Given as goal
 
 abbrev pub invariant-loop-f : goal.invariant-loop-f

@@ -1,10 +1,7 @@
 -- `record::ranges::is_in_ranges` meets its contract: the fields of the rows before `f` are in their ranges. Assumes nothing.
-use Prim.Native.Nat.{◌-◌, ◌≤◌}
 use mathlib.Core.Path.{◌≡◌, refl, sym, ◌∙◌}
-use mathlib.Core.Bool.{true}
 use native.Mathlib.Omega.{arith}
-use borrow.Author.Tests.{not-true, not-false}
-use lib.ListN.{length, take}
+use lib.ListN.{length}
 use Rattle.lists.specs.Words.{all}
 use Rattle.record.specs.Ranges.{field_good, table_of, placed}
 use Rattle.record.proofs.Tables.{rows_more, rows_end, rows_not, rows_at, short_bad, loose_bad, out_bad, each_in}

@@ -8,8 +8,7 @@ use lib.ListN.{get_or, take, drop}
 use Rattle.lists.specs.Numbers.{little_endian}
 use Rattle.record.specs.Ranges.{value, field_of, placed}
 use Rattle.lists.proofs.Numbers.{number_one}
-use Rattle.record.proofs.Tables.{lies_inside, eight_wide}
-use borrow.Author.Rules.{rules}
+use Rattle.record.proofs.Tables.{lies_inside}
 use Rattle.record.proofs.ranges.number_of.Goals as goal
 
 -- a row's field that is `w` bytes wide

@@ -1,16 +1,14 @@
 -- `record::vehicle::first_out` meets its contract: the records before `i` are good, and so are the fields before `f` of the record at `i`. Assumes nothing.
-use Prim.Native.Nat.{ℕ, ◌≤◌, ◌<◌, ◌-◌}
+use Prim.Native.Nat.{ℕ, ◌<◌}
 use mathlib.Core.Path.{◌≡◌, refl, sym, ap, subst, ◌∙◌}
 use mathlib.Core.Bool.{Bool, true, false}
 use mathlib.Core.List.{List}
-use mathlib.Core.Logic.{⊎_elim}
 use native.Mathlib.Omega.{arith}
-use borrow.Author.Tests.{not-true, not-false}
-use lib.ListN.{length, take}
+use lib.ListN.{length}
 use Rattle.lists.specs.Words.{all}
 use Rattle.record.specs.Records.{records, record_count}
 use Rattle.closing.specs.Closing.{closes}
-use Rattle.record.specs.Ranges.{value, field_good, table_of}
+use Rattle.record.specs.Ranges.{value, field_good}
 use Rattle.record.specs.Vehicles.{nth, number_closes, good, first_bad}
 use Rattle.record.specs.declared.vehicle.Found.TheVariants.{At}
 use Rattle.record.proofs.Records.{lent_at, part_record, record_length}

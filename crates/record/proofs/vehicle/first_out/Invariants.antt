@@ -1,21 +1,12 @@
 -- `record::vehicle::first_out` meets its contract: the records before `i` are good, and so are the fields before `f` of the record at `i`. Assumes nothing.
-use Prim.Native.Nat.{ℕ, ◌≤◌, ◌<◌, ◌-◌}
-use mathlib.Core.Path.{◌≡◌, refl, sym, ap, subst, ◌∙◌}
-use mathlib.Core.Bool.{Bool, true, false}
-use mathlib.Core.List.{List}
-use mathlib.Core.Logic.{⊎_elim}
-use native.Mathlib.Omega.{arith}
-use borrow.Author.Tests.{not-true, not-false}
+use Prim.Native.Nat.{◌≤◌, ◌-◌}
+use mathlib.Core.Path.{◌≡◌}
+use mathlib.Core.Bool.{true}
 use lib.ListN.{length, take}
 use Rattle.lists.specs.Words.{all}
-use Rattle.record.specs.Records.{records, record_count}
-use Rattle.closing.specs.Closing.{closes}
-use Rattle.record.specs.Ranges.{value, field_good, table_of}
-use Rattle.record.specs.Vehicles.{nth, number_closes, good, first_bad}
-use Rattle.record.specs.declared.vehicle.Found.TheVariants.{At}
-use Rattle.record.proofs.Records.{lent_at, part_record, record_length}
-use Rattle.record.proofs.Tables.{rows_more}
-use Rattle.record.proofs.Vehicles.{row_placed, rows_good, rows_bad, fields_good, number_bad, records_more, bad_first, bad_none}
+use Rattle.record.specs.Records.{records}
+use Rattle.record.specs.Ranges.{field_good, table_of}
+use Rattle.record.specs.Vehicles.{good}
 use Rattle.record.proofs.vehicle.first_out.Given as goal
 
 abbrev pub invariant-loop-f : goal.invariant-loop-f

@@ -1,11 +1,9 @@
 -- `record::vehicle::leading_with` meets its contract: the records before `k` have the byte. Assumes nothing.
 use Prim.Native.Nat.{◌-◌, ◌≤◌}
-use native.Mathlib.Omega.{arith}
-use mathlib.Core.Path.{◌≡◌, refl}
+use mathlib.Core.Path.{◌≡◌}
 use mathlib.Core.Bool.{true}
 use Rattle.lists.specs.Words.{all}
-use Rattle.record.specs.Records.{record_count, records, has_byte}
-use Rattle.record.proofs.Vehicles.{front_more, front_ends, front_whole}
+use Rattle.record.specs.Records.{records, has_byte}
 use Rattle.record.proofs.vehicle.leading_with.Given as goal
 
 abbrev pub invariant-loop-k : goal.invariant-loop-k

@@ -1,9 +1,8 @@
 -- `record::vehicle::read` meets its contract: a record is good exactly where the file that it makes alone has no bad one. Assumes nothing.
-use mathlib.Core.Path.{refl, sym, ap, ◌∙◌}
+use mathlib.Core.Path.{sym, ap, ◌∙◌}
 use native.Mathlib.Omega.{arith}
 use Rattle.record.specs.declared.vehicle.Reading.TheVariants.{Good}
 use Rattle.record.proofs.Vehicles.{is_nothing, alone_good, length_bad, reading_bad, reading_good}
-use borrow.Author.Rules.{rules}
 use Rattle.record.proofs.vehicle.read.Goals as goal
 
 pub returns-then-bytes-ne-SIZE : goal.returns-then-bytes-ne-SIZE

@@ -2,7 +2,6 @@
 use native.Mathlib.Omega.{arith}
 use Rattle.record.specs.Vehicles.{nth}
 use Rattle.record.proofs.Tables.{value_below}
-use borrow.Author.Rules.{rules}
 use Rattle.record.proofs.vehicle.small_of.Goals as goal
 
 pub overflow_cast-result : goal.overflow_cast-result

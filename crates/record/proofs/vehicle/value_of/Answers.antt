@@ -2,7 +2,6 @@
 use mathlib.Core.Path.{ap, ◌∙◌}
 use Rattle.record.specs.Ranges.{value}
 use Rattle.record.proofs.Vehicles.{row_known, row_placed}
-use Rattle.std.proofs.Common.{arith}
 use borrow.Author.Rules.{rules}
 use Rattle.record.proofs.vehicle.value_of.Goals as goal
 

@@ -1,7 +1,5 @@
 -- `record::vehicle::vehicle_of` meets its contract, field by field. Assumes nothing.
 use Rattle.record.specs.Vehicles.{vehicle}
-use Rattle.std.proofs.Common.{arith}
-use borrow.Author.Rules.{rules}
 use Rattle.record.proofs.vehicle.vehicle_of.Goals as goal
 
 pub returns : goal.returns

@@ -2,8 +2,6 @@
 use mathlib.Core.Path.{sym, ◌∙◌}
 use Rattle.record.specs.Records.{records_of}
 use Rattle.record.proofs.Vehicles.{front_working}
-use Rattle.std.proofs.Common.{arith}
-use borrow.Author.Rules.{rules}
 use Rattle.record.proofs.vehicle.working_count.Goals as goal
 
 pub returns : goal.returns

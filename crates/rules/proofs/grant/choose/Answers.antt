@@ -1,11 +1,9 @@
 -- `rules::grant::choose` meets its contract: the lists are what stands at their six places. Assumes nothing.
 use Prim.Native.Nat.{ℕ}
 use mathlib.Core.List.{List}
-use mathlib.Core.Path.{◌≡◌, sym, ap₂}
-use lib.ListN.{length}
+use mathlib.Core.Path.{sym, ap₂}
 use Rattle.rules.specs.Grants.{best_of, offers_from}
 use Rattle.lists.proofs.Lists.{spell}
-use Rattle.std.proofs.Common.{arith}
 use borrow.Author.Rules.{rules}
 use Rattle.rules.proofs.grant.choose.Goals as goal
 

@@ -12,8 +12,6 @@ use Rattle.rules.specs.declared.grant.Best.{Best}
 use Rattle.rules.specs.declared.grant.Decision.{Decision}
 use Rattle.rules.proofs.Rules.{family_first_lem}
 use Rattle.rules.proofs.Offers.{absent_passed}
-use Rattle.std.proofs.Common.{arith}
-use borrow.Author.Rules.{rules}
 use Rattle.rules.proofs.grant.decide_cross_border.Goals as goal
 use Rattle.rules.proofs.grant.decide_cross_border.Goals.{After-number_at-first_g}
 

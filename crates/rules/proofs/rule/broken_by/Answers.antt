@@ -5,8 +5,6 @@ use mathlib.Core.Path.{ap, ap₂, ◌∙◌}
 use lib.Dec.{ltb}
 use Rattle.lists.specs.Words.{◌is◌}
 use Rattle.rules.proofs.Rules.{at30, at47, broken_there}
-use Rattle.std.proofs.Common.{arith}
-use borrow.Author.Rules.{rules}
 use Rattle.rules.proofs.rule.broken_by.Goals as goal
 
 pub returns : goal.returns

@@ -3,8 +3,6 @@ use mathlib.Core.Path.{ap, ◌∙◌}
 use Rattle.rules.specs.Families.{first_place, family_of}
 use Rattle.rules.specs.CrossBorder.{cross_rules, cross_border}
 use Rattle.rules.specs.declared.rule.Terms.{Terms}
-use Rattle.std.proofs.Common.{arith}
-use borrow.Author.Rules.{rules}
 use Rattle.rules.proofs.rule.family_of.Goals as goal
 
 pub returns : goal.returns

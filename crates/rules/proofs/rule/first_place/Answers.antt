@@ -4,8 +4,6 @@ use mathlib.Core.Bool.{Bool, not}
 use mathlib.Core.Path.{ap, ◌∙◌}
 use Rattle.lists.specs.Words.{leading}
 use Rattle.rules.specs.Families.{first_place}
-use Rattle.std.proofs.Common.{arith}
-use borrow.Author.Rules.{rules}
 use Rattle.rules.proofs.rule.first_place.Goals as goal
 
 pub returns : goal.returns

@@ -1,10 +1,8 @@
 -- `rules::rule::is_short` meets its contract: the family's parts and k are the category's. Assumes nothing.
 use mir.Facts.{to_z-of_z}
-use borrow.Author.Rules.{sfits_of, rules}
+use borrow.Author.Rules.{sfits_of}
 use Rattle.categories.specs.Brakes.{margin_for}
 use Rattle.rules.specs.Families.{family_of}
-use Rattle.std.proofs.Common.{arith}
-use borrow.Author.Rules.{rules}
 use Rattle.rules.proofs.rule.is_short.Goals as goal
 
 pub returns : goal.returns

@@ -1,7 +1,5 @@
 -- `rules::rule::still_terms` meets its contract, field by field. Assumes nothing.
 use Rattle.rules.specs.Families.{still_of}
-use Rattle.std.proofs.Common.{arith}
-use borrow.Author.Rules.{rules}
 use Rattle.rules.proofs.rule.still_terms.Goals as goal
 
 pub returns : goal.returns

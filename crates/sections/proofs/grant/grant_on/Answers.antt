@@ -8,8 +8,6 @@ use Rattle.sections.specs.Gathering.{offers_on}
 use Rattle.sections.specs.Sections.{sections_of}
 use Rattle.sections.specs.declared.grant.Offers.{Offers}
 use Rattle.sections.proofs.Gathers.{granted_by}
-use Rattle.std.proofs.Common.{arith}
-use borrow.Author.Rules.{rules}
 use Rattle.sections.proofs.grant.grant_on.Goals as goal
 
 pub returns : goal.returns

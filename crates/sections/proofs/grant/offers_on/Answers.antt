@@ -1,5 +1,5 @@
 -- `sections::grant::offers_on` meets its contract: `all` holds what is offered from section `k` on. Assumes nothing.
-use Prim.Native.Nat.{ℕ, suc, ◌-◌, ◌≤◌, ◌<◌}
+use Prim.Native.Nat.{ℕ, suc, ◌-◌, ◌<◌}
 use native.Mathlib.Omega.{arith}
 use mathlib.Core.Path.{◌≡◌, ap, ◌∙◌}
 use lib.ListN.{drop}
@@ -9,7 +9,6 @@ use Rattle.books.specs.Books.{book_of}
 use Rattle.sections.specs.Gathering.{offers_on}
 use Rattle.sections.specs.Sections.{sections_of}
 use Rattle.sections.proofs.Gathers.{offers_none, offers_from_lem}
-use borrow.Author.Rules.{rules}
 use Rattle.sections.proofs.grant.offers_on.Goals as goal
 
 pub loop-k-init : goal.loop-k-init

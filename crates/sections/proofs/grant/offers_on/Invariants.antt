@@ -1,14 +1,11 @@
 -- `sections::grant::offers_on` meets its contract: `all` holds what is offered from section `k` on. Assumes nothing.
-use Prim.Native.Nat.{ℕ, suc, ◌-◌, ◌≤◌, ◌<◌}
-use native.Mathlib.Omega.{arith}
-use mathlib.Core.Path.{◌≡◌, ap, ◌∙◌}
+use Prim.Native.Nat.{◌≤◌}
+use mathlib.Core.Path.{◌≡◌}
 use lib.ListN.{drop}
 use Rattle.record.specs.Records.{record_count}
-use Rattle.rules.specs.Grants.{decision_of}
 use Rattle.books.specs.Books.{book_of}
 use Rattle.sections.specs.Gathering.{offers_on}
 use Rattle.sections.specs.Sections.{sections_of}
-use Rattle.sections.proofs.Gathers.{offers_none, offers_from_lem}
 use Rattle.sections.proofs.grant.offers_on.Given as goal
 
 abbrev pub invariant-loop-k : goal.invariant-loop-k

@@ -1,9 +1,7 @@
 -- `sections::grant::on_no_section` meets its contract, category by category, in each book. Assumes nothing.
-use mathlib.Core.Path.{◌≡◌, sym, ap, ◌∙◌}
+use mathlib.Core.Path.{sym, ap, ◌∙◌}
 use mathlib.Core.List.{[], ◌∷◌}
 use Rattle.sections.proofs.Gathers.{sixth_in, offers_start}
-use Rattle.std.proofs.Common.{arith}
-use borrow.Author.Rules.{rules}
 use Rattle.sections.proofs.grant.on_no_section.Goals as goal
 
 pub returns-in-CrossBorder : goal.returns-in-CrossBorder

@@ -1,7 +1,7 @@
 -- `sections::grant::put_speeds` meets its contract: the first `i` speeds are laid. Assumes nothing.
-use Prim.Native.Nat.{ℕ, ◌-◌, ◌≤◌, ◌<◌, min}
+use Prim.Native.Nat.{ℕ, ◌<◌, min}
 use native.Mathlib.Omega.{arith}
-use mathlib.Core.Path.{◌≡◌, refl, ap, ◌∙◌}
+use mathlib.Core.Path.{◌≡◌, ap, ◌∙◌}
 use mathlib.Core.List.{List, []}
 use lib.ListN.{length, set, length-set}
 use Rattle.record.specs.Records.{record_count}
@@ -11,8 +11,7 @@ use Rattle.categories.specs.Categories.{category_of, rows_of}
 use Rattle.books.specs.Books.{book_of}
 use Rattle.sections.specs.Routes.{section_speed, speeds_on}
 use Rattle.sections.specs.Sections.{sections_of, book_named_in}
-use Rattle.sections.proofs.Lays.{laid_to, laid_more, laid_whole, length_speeds, speed_there}
-use borrow.Author.Rules.{rules}
+use Rattle.sections.proofs.Lays.{laid_more, laid_whole, length_speeds, speed_there}
 use Rattle.sections.proofs.grant.put_speeds.Goals as goal
 
 pub loop-i-preserved : goal.loop-i-preserved

@@ -1,17 +1,11 @@
 -- `sections::grant::put_speeds` meets its contract: the first `i` speeds are laid. Assumes nothing.
-use Prim.Native.Nat.{ℕ, ◌-◌, ◌≤◌, ◌<◌, min}
-use native.Mathlib.Omega.{arith}
-use mathlib.Core.Path.{◌≡◌, refl, ap, ◌∙◌}
-use mathlib.Core.List.{List, []}
-use lib.ListN.{length, set, length-set}
-use Rattle.record.specs.Records.{record_count}
-use Rattle.order.specs.Orders.{order_of}
-use Rattle.order.specs.declared.Order.{Order}
-use Rattle.categories.specs.Categories.{category_of, rows_of}
+use Prim.Native.Nat.{◌-◌, ◌≤◌}
+use mathlib.Core.Path.{◌≡◌}
+use lib.ListN.{length}
 use Rattle.books.specs.Books.{book_of}
-use Rattle.sections.specs.Routes.{section_speed, speeds_on}
+use Rattle.sections.specs.Routes.{speeds_on}
 use Rattle.sections.specs.Sections.{sections_of, book_named_in}
-use Rattle.sections.proofs.Lays.{laid_to, laid_more, laid_whole, length_speeds, speed_there}
+use Rattle.sections.proofs.Lays.{laid_to}
 use Rattle.sections.proofs.grant.put_speeds.Given as goal
 
 abbrev pub invariant-loop-i : goal.invariant-loop-i

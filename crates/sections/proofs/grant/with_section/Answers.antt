@@ -1,13 +1,12 @@
 -- `sections::grant::with_section` meets its contract: before `i` both arrays are zipped, from it on they are those further on. Assumes nothing.
-use Prim.Native.Nat.{ℕ, min, ◌+◌, ◌-◌, ◌≤◌, ◌<◌}
+use Prim.Native.Nat.{ℕ, min, ◌+◌, ◌<◌}
 use native.Mathlib.Omega.{arith}
-use mathlib.Core.Path.{◌≡◌, refl, sym, ap, ◌∙◌}
+use mathlib.Core.Path.{◌≡◌, sym, ap, ◌∙◌}
 use mathlib.Core.List.{List, zip_with}
-use lib.ListN.{length, get_or, set, length-set}
+use lib.ListN.{get_or, set, length-set}
 use Rattle.sections.specs.Gathering.{first_rule, in_front}
 use Rattle.sections.proofs.Gathers.{zipped_to, zipped_more, zipped_whole}
 use Rattle.sections.proofs.grant.with_section.Invariants.{Zipped}
-use borrow.Author.Rules.{rules}
 use Rattle.sections.proofs.grant.with_section.Goals as goal
 
 module _ (g : ℕ → ℕ → ℕ) (here further zs : List ℕ) (i : ℕ) (w : Zipped g here further zs i) where

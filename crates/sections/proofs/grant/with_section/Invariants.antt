@@ -1,11 +1,10 @@
 -- `sections::grant::with_section` meets its contract: before `i` both arrays are zipped, from it on they are those further on. Assumes nothing.
-use Prim.Native.Nat.{ℕ, min, ◌+◌, ◌-◌, ◌≤◌, ◌<◌}
-use native.Mathlib.Omega.{arith}
-use mathlib.Core.Path.{◌≡◌, refl, sym, ap, ◌∙◌}
-use mathlib.Core.List.{List, zip_with}
-use lib.ListN.{length, get_or, set, length-set}
-use Rattle.sections.specs.Gathering.{first_rule, in_front}
-use Rattle.sections.proofs.Gathers.{zipped_to, zipped_more, zipped_whole}
+use Prim.Native.Nat.{ℕ, min, ◌-◌, ◌≤◌}
+use mathlib.Core.Path.{◌≡◌}
+use mathlib.Core.List.{List}
+use lib.ListN.{length}
+use Rattle.sections.specs.Gathering.{first_rule}
+use Rattle.sections.proofs.Gathers.{zipped_to}
 use Rattle.sections.proofs.grant.with_section.Given as goal
 
 -- six members of each are zipped as far as i

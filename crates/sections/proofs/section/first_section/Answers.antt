@@ -4,7 +4,6 @@ use native.Mathlib.Omega.{arith}
 use mathlib.Core.Path.{◌∙◌}
 use lib.ListN.{length}
 use Rattle.sections.proofs.Places.{first_none, first_read}
-use borrow.Author.Rules.{rules}
 use Rattle.sections.proofs.section.first_section.Goals as goal
 
 pub returns-then-orders-lt-SIZE : goal.returns-then-orders-lt-SIZE

@@ -2,12 +2,9 @@
 use lib.Dec.{eqb}
 use mathlib.Core.Path.{sym, ap, ◌∙◌}
 use mathlib.Core.Bool.{Bool, ◌&&◌}
-use borrow.Author.Tests.{not-true, not-false}
 use Rattle.order.specs.declared.Order.{Order}
 use Rattle.sections.specs.Sections.{same_book}
 use Rattle.sections.proofs.Places.{section_bad, section_good}
-use Rattle.std.proofs.Common.{arith}
-use borrow.Author.Rules.{rules}
 use Rattle.sections.proofs.section.is_good_section.Goals as goal
 
 pub returns-then-not-is_good_order : goal.returns-then-not-is_good_order

@@ -2,8 +2,6 @@
 use Prim.Native.Nat.{ℕ, max}
 use mathlib.Core.Path.{ap, ◌∙◌}
 use Rattle.categories.specs.Categories.{percentage_of}
-use Rattle.std.proofs.Common.{arith}
-use borrow.Author.Rules.{rules}
 use Rattle.categories.proofs.category.Category.percentage_on.Goals as goal
 
 pub returns : goal.returns

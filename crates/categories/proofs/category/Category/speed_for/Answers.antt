@@ -2,8 +2,6 @@
 use Prim.Native.Nat.{ℕ, min}
 use mathlib.Core.Path.{ap, ◌∙◌}
 use Rattle.categories.specs.Categories.{speed_of}
-use Rattle.std.proofs.Common.{arith}
-use borrow.Author.Rules.{rules}
 use Rattle.categories.proofs.category.Category.speed_for.Goals as goal
 
 pub returns : goal.returns
