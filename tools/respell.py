@@ -1,7 +1,7 @@
 #!/usr/bin/env python3
 """Spells this repository's own definitions, lemmas and fields of records in snake case: types, facts and modules keep their capitals.
 
-usage: python3 tools/respell.py        at the top, once, after /opt/rattle/port/port.py
+usage: python3 tools/respell.py        at the top, once, after port.py of the kit
 
 Names of src/ (functions, fields, constants, variants) keep their spelling. A lemma that would have a definition's name gets `_lem`.
 It prints each name that it turned, old and new.
