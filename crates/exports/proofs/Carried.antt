@@ -18,7 +18,7 @@ use Rattle.account.specs.Portions.{accounted, join_refusals, joined}
 use Rattle.account.specs.Groupings.{Grouping, portion, pair, uncut, joined_bytes, BetweenRecords, NoneRefused}
 use Rattle.account.specs.declared.Account.{Account}
 use Rattle.account.specs.declared.Accounted.{Accounted}
-use Rattle.account.specs.declared.Answer as account_answer_lem
+use Rattle.account.specs.declared.Answer as AccountAnswer
 use Rattle.account.specs.declared.Answer.TheVariants as account-case
 use Rattle.account.proofs.Demands as account-demands
 use Rattle.account.proofs.Demands.{portion_done_exactly, portion_of, within_ceilings, any_grouping_not_refused}
@@ -65,9 +65,9 @@ module _ (left right : List ℕ) where
   unfolding lent_number
   join_other_number room e seven =
       go (within (joining (offered left) (offered right))) (size above room)
-      (sym (ap (λ (a : account_answer_lem.Answer). cond (account.number_of a is 0 && size above room) 5 (account_number a)) (answer_other e)) ∙ seven)
+      (sym (ap (λ (a : AccountAnswer.Answer). cond (account.number_of a is 0 && size above room) 5 (account_number a)) (answer_other e)) ∙ seven)
     where
-      number : Bool → account_answer_lem.Answer
+      number : Bool → AccountAnswer.Answer
       number w = cond (not w) account-case.TooMany account-case.Done
 
       go : (w short : Bool) → cond (account.number_of (number w) is 0 && short) 5 (account_number (number w)) ≡ 7 → ⊥
@@ -133,7 +133,7 @@ five_joined l r h = length-take-le 5 (take l.count l.first ++ r.first) (omega (a
 pub join_back : (left right : List ℕ) → (both left right).answer ≡ account-case.Done → offered (record_of (both left right).account) ≡ (both left right).account
 join_back left right e =
     let j = joining (offered left) (offered right) in
-    let a : (both left right).account ≡ j = ap (λ (x : account_answer_lem.Answer). cond (account.number_of x is 0) j empty) e in
+    let a : (both left right).account ≡ j = ap (λ (x : AccountAnswer.Answer). cond (account.number_of x is 0) j empty) e in
     ap (λ (x : Account). offered (record_of x)) a
     ∙ read_back_within j (five_joined (offered left) (offered right) (five_offered right)) ((account-demands.within_exactly j).0 (joined_within left right e))
     ∙ sym a
@@ -179,7 +179,7 @@ module _ (g : Grouping ℕ) (cut : BetweenRecords g) (none : NoneRefused g) wher
 -- ---- from the records alone
 lent_zero : (r : Accounted) (room : ℕ) → r.answer ≡ account-case.Done → size ≤ room → lent_number r room ≡ 0
 unfolding lent_number
-lent_zero r room e h = ap (λ (a : account_answer_lem.Answer). cond (account.number_of a is 0 && size above room) 5 (account_number a)) e ∙ rw (le-ltb room size h)
+lent_zero r room e h = ap (λ (a : AccountAnswer.Answer). cond (account.number_of a is 0 && size above room) 5 (account_number a)) e ∙ rw (le-ltb room size h)
 
 pub grouping_answered : (g : Grouping ℕ) → NoneRefused g → (room : ℕ) → size ≤ room → AllAnswered g room
 grouping_answered (portion bs) h room fits = lent_zero (accounted bs) room h fits

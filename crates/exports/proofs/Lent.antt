@@ -20,7 +20,7 @@ use Rattle.speed.specs.Speed.{holds_the_speed}
 use Rattle.speed.proofs.Demands.{vehicle_or_none}
 use Rattle.account.specs.declared.Account.{Account}
 use Rattle.account.specs.declared.Accounted.{Accounted}
-use Rattle.account.specs.declared.Answer as account_answer_lem
+use Rattle.account.specs.declared.Answer as AccountAnswer
 use Rattle.account.specs.declared.Answer.TheVariants as account-case
 use Rattle.lists.proofs.Figures.{leading_le}
 use Rattle.lists.proofs.Lists.{neither}
@@ -127,7 +127,7 @@ pub account_route_place : (r : Route) (bs : List ℕ) (hauled : Account) (orders
 account_route_place r bs hauled orders room e = omega (arith, ap (λ (r : Route). place_of r.answer) e, account_route_answer bs hauled orders room)
 
 -- ---- an account that is lent
-pub account_number_small : (answer : account_answer_lem.Answer) → account.number_of answer ≤ 7
+pub account_number_small : (answer : AccountAnswer.Answer) → account.number_of answer ≤ 7
 account_number_small account-case.Done = omega arith
 account_number_small account-case.NotWhole = omega arith
 account_number_small account-case.TooMany = omega arith
@@ -136,7 +136,7 @@ account_number_small account-case.WorkingEngine = omega arith
 account_number_small account-case.AboveCeiling = omega arith
 
 -- what is done has no place
-done_place : (answer : account_answer_lem.Answer) → account.number_of answer ≡ 0 → account.place_of answer ≡ 0
+done_place : (answer : AccountAnswer.Answer) → account.number_of answer ≡ 0 → account.place_of answer ≡ 0
 done_place account-case.Done e = refl
 done_place account-case.NotWhole e = refl
 done_place account-case.TooMany e = refl
@@ -155,7 +155,7 @@ pub join_place : (left right : Account) → account.place_of (joined left right)
 unfolding join_refusals
 join_place left right = first_place_lem account.place_of account-case.Done (join_refusals left right) (omega arith) (omega arith)
 
-pub done_number : (answer : account_answer_lem.Answer) → account.number_of answer ≡ 0 → account_number answer ≡ 0
+pub done_number : (answer : AccountAnswer.Answer) → account.number_of answer ≡ 0 → account_number answer ≡ 0
 done_number answer e = omega (arith, done_place answer e)
 
 pub lent_not_done : (r : Accounted) → (account.number_of r.answer ≡ 0 → ⊥) → account_number r.answer ≡ 0 → ⊥

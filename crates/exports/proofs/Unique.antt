@@ -22,7 +22,7 @@ use Rattle.exports.proofs.prskavon_route_of_train.Reads as route-of-train-reads
 use Rattle.exports.specs.contracts.prskavon_route_of_account as route-of-account
 use Rattle.exports.proofs.prskavon_route_of_account.Kinds as route-of-account-kinds
 use Rattle.exports.proofs.prskavon_route_of_account.Reads as route-of-account-reads
-use Rattle.exports.specs.contracts.prskavon_holds_the_speed as holds_the_speed_lem
+use Rattle.exports.specs.contracts.prskavon_holds_the_speed as HoldsTheSpeed
 use Rattle.exports.proofs.prskavon_holds_the_speed.Kinds as holds-the-speed-kinds
 use Rattle.exports.proofs.prskavon_holds_the_speed.Reads as holds-the-speed-reads
 
@@ -50,6 +50,6 @@ pub route_of_account_unique : (κs : Lfts 4) (a : ArgsD route-of-account.signatu
     → route-of-account-reads.Post κs a r s → route-of-account-reads.Post κs a r' s' → (r ≡ r') × (s.1.1.1.0.now ≡ s'.1.1.1.0.now)
 route_of_account_unique κs a s s' p q = (p.0 ∙ sym q.0, p.1 ∙ sym q.1)
 
-pub holds_the_speed_unique : (κs : Lfts 2) (a : ArgsD holds_the_speed_lem.signature κs) {r r' : ResD holds_the_speed_lem.signature κs} (s s' : AtExit (ended_of 2 holds-the-speed-kinds.ps holds-the-speed-kinds.r) κs)
+pub holds_the_speed_unique : (κs : Lfts 2) (a : ArgsD HoldsTheSpeed.signature κs) {r r' : ResD HoldsTheSpeed.signature κs} (s s' : AtExit (ended_of 2 holds-the-speed-kinds.ps holds-the-speed-kinds.r) κs)
     → holds-the-speed-reads.Post κs a r s → holds-the-speed-reads.Post κs a r' s' → (r ≡ r') × (s.1.1.0.now ≡ s'.1.1.0.now)
 holds_the_speed_unique κs a s s' p q = (p.0 ∙ sym q.0, p.1 ∙ sym q.1)

@@ -6,7 +6,7 @@ use Rattle.account.specs.Portions.{accounted, joined}
 use Rattle.account.specs.Groupings.{Grouping, portion, pair}
 use Rattle.speed.specs.Speed.{holds_the_speed}
 use Rattle.account.specs.declared.Accounted.{Accounted}
-use Rattle.account.specs.declared.Answer as account_answer_lem
+use Rattle.account.specs.declared.Answer as AccountAnswer
 use Rattle.judge.specs.Answers as judge
 use Rattle.judge.specs.declared.Answer.{Answer}
 use Rattle.route.specs.declared.Route.{Route}
@@ -23,7 +23,7 @@ sheet_number answer = one_number (judge.number_of answer) (judge.place_of answer
 abbrev pub route_number : Route → ℕ
 route_number r = sheet_number r.answer + 4294967296 * r.granted
 
-abbrev pub account_number : account_answer_lem.Answer → ℕ
+abbrev pub account_number : AccountAnswer.Answer → ℕ
 account_number answer = one_number (account.number_of answer) (account.place_of answer)
 
 -- of an account for a room of so many bytes: its refusals as document 01 orders them, then 5 for a room shorter than an account's bytes
