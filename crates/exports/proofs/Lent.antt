@@ -6,8 +6,7 @@ use mathlib.Core.List.{List, [], ◌∷◌, ◌++◌}
 use mathlib.Core.Logic.{◌⊎◌, inr, ⊎_elim}
 use native.Mathlib.Omega.{arith}
 use borrow.Author.Tests.{ltb-false, lt-ltb, le-ltb, eq-eqb, ne_eqb}
-use lib.ListN.{length, take, drop}
-use lib.Seq.{take_all}
+use lib.ListN.{length, drop}
 use Rattle.lists.specs.Words.{◌is◌, ◌above◌, all, leading, Every, Case, first_of}
 use Rattle.record.specs.Records.{record_count, records_of, is_whole}
 use Rattle.record.specs.Vehicles.{good, vehicles, is_working}
@@ -187,8 +186,8 @@ module _ (r : Accounted) (room : List ℕ) (n : ℕ) (answered : n ≡ account_n
 
 -- ---- the vehicle that is lent
 -- all of one list over the front of another
-pub copied : (to : List ℕ) {from want : List ℕ} → from ≡ want → take (length from) from ++ drop (length from) to ≡ want ++ drop (length want) to
-copied to {from} {want} e = ap (λ (l : List ℕ). take (length l) l ++ drop (length l) to) e ∙ ap (λ (l : List ℕ). l ++ drop (length want) to) (take_all (length want) want (omega arith))
+pub copied : (to : List ℕ) {from want : List ℕ} → from ≡ want → from ++ drop (length from) to ≡ want ++ drop (length want) to
+copied to e = ap (λ (l : List ℕ). l ++ drop (length l) to) e
 
 pub vehicle_fits : (part front back : List ℕ) → part ≡ holds_the_speed front back → length part ≤ 24
 vehicle_fits part front back e =

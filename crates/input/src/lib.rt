@@ -1,9 +1,10 @@
 // Standard input read until it ends or a buffer is full: a read that fails is not an end.
 #![tactic(auto)]
 
-ghost use Rattle.std.specs.Prelude.{◌≡◌, ◌-◌, ◌≤◌, length};
+ghost use Rattle.std.specs.Prelude.{◌≡◌, ◌-◌, ◌^◌, ◌<◌, ◌≤◌, length, pos, negsuc, IfOk, MatchResult};
 ghost use Rattle.input.specs.Inputs.{Moved, input_after, Held};
 
+use std::io;
 use std::io::{IsTerminal, Read, Stdin};
 
 // Linux's number of a call that a signal interrupted.
@@ -52,17 +53,26 @@ fn after(done: usize, room: usize, got: isize, error: i32, lost: bool) -> Input
     }
 }
 
-// Read's answer as C has it, how many bytes or -1, with the error's number kept in the source.
+// Read's answer as C has it: how many bytes, and -1 of a read that failed.
+fn moved(answer: &io::Result<usize>) -> isize
+    requires { IfOk answer.now (λ n. n < 2 ^ 63) }
+    ensures { MatchResult answer.now (λ n. result ≡ pos n) (λ e. result ≡ negsuc 0) }
+{
+    match answer {
+        Ok(n) => *n as isize,
+        Err(_) => -1,
+    }
+}
+
+// Reads once, with the number of an error kept in the source.
 fn read(source: &mut Source, part: &mut [u8]) -> isize
     ensures { Moved (length part.old) result }
 {
-    match source.stdin.read(part) {
-        Ok(n) => n as isize,
-        Err(error) => {
-            source.errno = error.raw_os_error().unwrap_or(EIO);
-            -1
-        }
+    let answer = source.stdin.read(part);
+    if let Err(error) = &answer {
+        source.errno = error.raw_os_error().unwrap_or(EIO);
     }
+    moved(&answer)
 }
 
 // A terminal that was hung up is one no more, though a read of it may answer 0 as at an end.

@@ -5,8 +5,7 @@ use mathlib.Core.Path.{◌≡◌, refl, sym, ap, ap₂, ◌∙◌, subst}
 use mathlib.Core.Bool.{Bool, true, false, cond}
 use mathlib.Core.List.{List, ◌++◌}
 use borrow.Author.Tests.{ltb-false, not-false}
-use lib.ListN.{length, take, drop}
-use lib.Seq.{take_all}
+use lib.ListN.{length, drop}
 use Rattle.lists.specs.Words.{Every, first_of}
 use Rattle.record.specs.Vehicles.{vehicles}
 use Rattle.account.specs.declared.Account.{Account}
@@ -40,8 +39,8 @@ pub length_most : (b : Book) → sheet_length b ≤ 33
 length_most CrossBorder = omega arith
 length_most Domestic = omega arith
 
-pub laid : (line bytes sheet : List ℕ) → line ≡ bytes → take (length line) line ++ drop (length line) sheet ≡ bytes ++ drop (length bytes) sheet
-laid line bytes sheet e = ap₂ ◌++◌ (take_all (length line) line (omega arith) ∙ e) (ap (λ (n : ℕ). drop n sheet) (ap length e))
+pub laid : (line bytes sheet : List ℕ) (n : ℕ) → line ≡ bytes → n ≡ length bytes → line ++ drop n sheet ≡ bytes ++ drop (length bytes) sheet
+laid line bytes sheet n e h = ap₂ ◌++◌ e (ap (λ (k : ℕ). drop k sheet) h)
 
 -- ---- the order and the room
 -- the bytes are asked only of a good order, which is read as its fields say

@@ -1,7 +1,6 @@
 -- `exports::lend::lend` meets its contract. Assumes nothing.
 use mathlib.Core.Path.{◌∙◌}
-use Rattle.exports.proofs.Lent.{lent_refused, lent_short, lent_done}
-use Rattle.std.proofs.Common.{ℕ, List, ◌++◌, length, drop, ap}
+use Rattle.exports.proofs.Lent.{copied, lent_refused, lent_short, lent_done}
 use Rattle.exports.proofs.lend.lend.Goals as goal
 
 pub returns-then-number-ne0 : goal.returns-then-number-ne0
@@ -17,4 +16,4 @@ returns-then-room-lt-SIZE c =
 pub returns : goal.returns
 returns c =
     let e = lent_done c.args.given c.args.room.now _ c.account_number-number.ensures c.if-number-ne0.false c.if-room-lt-SIZE.false in
-    record { value = e.0; room_after = c.copy.ensures.copied ∙ ap (λ (v : List ℕ). v ++ drop (length v) c.args.room.now) c.record_of-bytes.ensures ∙ e.1 }
+    record { value = e.0; room_after = c.copy.ensures.copied ∙ copied c.args.room.now c.record_of-bytes.ensures ∙ e.1 }
