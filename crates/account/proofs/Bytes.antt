@@ -7,6 +7,7 @@ use mathlib.Core.List.{List, [], ◌∷◌, ◌++◌, map}
 use borrow.Author.Tests.{eq-eqb, eqb-true, eqb-false, ltb-false, not-false}
 use lib.Dec.{ltb}
 use lib.ListN.{length, length-append}
+use Rattle.std.specs.Prelude.{Ok, Err, IsOk, is_ok}
 use Rattle.lists.specs.Words.{all, Every}
 use Rattle.record.specs.Records.{record_count, records_of, is_whole}
 use Rattle.record.specs.Vehicles.{good, vehicle, vehicles, is_working}
@@ -17,12 +18,11 @@ use Rattle.lists.specs.Figures.{some}
 use Rattle.account.specs.Accounts.{account_of}
 use Rattle.account.specs.Ceilings.{within}
 use Rattle.account.specs.Joining.{joining}
-use Rattle.account.specs.Answers.{first_that_applies, done_with}
+use Rattle.account.specs.Answers.{Answer}
 use Rattle.account.specs.Portions.{portion_refusals, accounted, join_refusals, joined}
-use Rattle.account.specs.Groupings.{GoodHauled, Portion, GoodPortion, Grouping, portion, pair, uncut, joined_bytes, BetweenRecords, NoneRefused}
-use Rattle.account.specs.declared.Accounted.{Accounted}
-use Rattle.account.specs.declared.Answer.{Answer}
-use Rattle.account.specs.declared.Answer.TheVariants.{Done, NotWhole, TooMany, BadField, WorkingEngine, AboveCeiling}
+use Rattle.account.specs.Groupings.{GoodHauled, Portion, GoodPortion, Grouping, portion, pair, uncut, joined_answers, joined_bytes, BetweenRecords, NoneRefused}
+use Rattle.account.specs.declared.Refusal.{Refusal}
+use Rattle.account.specs.declared.Refusal.TheVariants.{NotWhole, TooMany, BadField, WorkingEngine, AboveCeiling}
 use Rattle.lists.proofs.Lists.{both, all_append, neither, every_append}
 use Rattle.account.proofs.Ceils.{test_within, figure_at_lem, portion_left, portion_right}
 use Rattle.account.proofs.Joins.{each_hauled, joined_accounts}
@@ -35,9 +35,9 @@ pub record Sound (bs : List ℕ) : Type 0 where
   pub hauled : Portion (vehicles bs)
 
 -- a test that refuses did not hold, and the next answer is the answer
-not_refused : (t : Bool) (refusal next : Answer) → (refusal ≡ Done → ⊥) → cond t refusal next ≡ Done → (t ≡ false) × (next ≡ Done)
-not_refused true refusal next h e = absurd (h e)
-not_refused false refusal next h e = (refl, e)
+not_refused : (t : Bool) (refusal : Refusal) (next : Answer) → IsOk (cond t (Err refusal) next) → (t ≡ false) × IsOk next
+not_refused true refusal next e = cc
+not_refused false refusal next e = (refl, e)
 
 pub hauled_each : (rs : List (List ℕ)) → all good rs ≡ true → some is_working (map vehicle rs) ≡ false → Every GoodHauled (map vehicle rs)
 unfolding all
@@ -47,13 +47,13 @@ hauled_each (r ∷ rs) g w =
     let n = neither (is_working (vehicle r)) (some is_working (map vehicle rs)) w in
     (good_hauled r t.0 (eqb-false (vehicle r).kind 2 n.0), hauled_each rs t.1 n.1)
 
-pub done_sound : (bs : List ℕ) → first_that_applies (portion_refusals bs) ≡ Done → Sound bs
+pub done_sound : (bs : List ℕ) → IsOk (accounted bs) → Sound bs
 unfolding portion_refusals
 done_sound bs e =
-    let n1 = not_refused (not (is_whole bs)) NotWhole _ (λ q. let z : ◌≡◌ {A = ℕ} 0 1 = cc in omega arith) e in
-    let n2 = not_refused (ltb 200 (record_count bs)) TooMany _ (λ q. let z : ◌≡◌ {A = ℕ} 0 1 = cc in omega arith) n1.1 in
-    let n3 = not_refused (not (all good (records_of bs))) (BadField _) _ (λ q. let z : ◌≡◌ {A = ℕ} 0 1 = cc in omega arith) n2.1 in
-    let n6 = not_refused (some is_working (vehicles bs)) WorkingEngine Done (λ q. let z : ◌≡◌ {A = ℕ} 0 1 = cc in omega arith) n3.1 in
+    let n1 = not_refused (not (is_whole bs)) NotWhole _ e in
+    let n2 = not_refused (ltb 200 (record_count bs)) TooMany _ n1.1 in
+    let n3 = not_refused (not (all good (records_of bs))) (BadField _) _ n2.1 in
+    let n6 = not_refused (some is_working (vehicles bs)) WorkingEngine _ n3.1 in
     let good = not-false (all good (records_of bs)) n3.0 in
     record {
       whole = eqb-true (length bs % 24) 0 (not-false (is_whole bs) n1.0);
@@ -65,7 +65,7 @@ done_sound bs e =
           };
     }
 
-pub sound_done : (bs : List ℕ) → Sound bs → accounted bs ≡ done_with (account_of (vehicles bs))
+pub sound_done : (bs : List ℕ) → Sound bs → accounted bs ≡ Ok (account_of (vehicles bs))
 sound_done bs s =
     let few : record_count bs ≤ 200 = omega (arith, s.hauled.few, length_vehicles (record_count bs) bs) in
     sym (answer_0 bs s.whole few s.fine (none_working (vehicles bs) s.hauled.each))
@@ -98,11 +98,11 @@ between (portion bs) c = eqb-true (length bs % 24) 0 c
 between (pair left right) c = omega (arith, length-append (uncut left) (uncut right), between left c.0, between right c.1)
 
 -- two accounts of lists that join are of at most 200 records
-joined_few : (xs ys : List Vehicle) → (joined (account_of xs) (account_of ys)).answer ≡ Done → length (xs ++ ys) ≤ 200
+joined_few : (xs ys : List Vehicle) → IsOk (joined (account_of xs) (account_of ys)) → length (xs ++ ys) ≤ 200
 unfolding join_refusals account_of joining
 joined_few xs ys e =
-    let n7 = not_refused (not (within (account_of xs) && within (account_of ys))) AboveCeiling _ (λ q. let z : ◌≡◌ {A = ℕ} 0 1 = cc in omega arith) e in
-    let n2 = not_refused (not (within (joining (account_of xs) (account_of ys)))) TooMany Done (λ q. let z : ◌≡◌ {A = ℕ} 0 1 = cc in omega arith) n7.1 in
+    let n7 = not_refused (not (within (account_of xs) && within (account_of ys))) AboveCeiling _ e in
+    let n2 = not_refused (not (within (joining (account_of xs) (account_of ys)))) TooMany _ n7.1 in
     omega (arith, length-append xs ys, figure_at_lem (joining (account_of xs) (account_of ys)) (test_within (joining (account_of xs) (account_of ys)) (not-false (within (joining (account_of xs) (account_of ys))) n2.0)) 0)
 
 -- ---- two portions of a sound one
@@ -135,41 +135,41 @@ sound_grouped (pair left right) c s =
     let cut = between left c.0 in
     let l = sound_left a b cut s in
     let r = sound_right a b cut s in
-    ap₂ (λ (x y : Accounted). joined x.account y.account) (sound_grouped left c.0 l ∙ sound_done a l) (sound_grouped right c.1 r ∙ sound_done b r)
+    ap₂ joined_answers (sound_grouped left c.0 l ∙ sound_done a l) (sound_grouped right c.1 r ∙ sound_done b r)
     ∙ joined_accounts (vehicles a) (vehicles b) (both_portions a b cut s)
-    ∙ ap (λ (xs : List Vehicle). done_with (account_of xs)) (sym (vehicles_append a b cut))
+    ∙ ap (λ (xs : List Vehicle). Ok (account_of xs)) (sym (vehicles_append a b cut))
     ∙ sym (sound_done (a ++ b) s)
 
-pub bytes_grouped : (g : Grouping ℕ) → BetweenRecords g → first_that_applies (portion_refusals (uncut g)) ≡ Done → joined_bytes g ≡ accounted (uncut g)
+pub bytes_grouped : (g : Grouping ℕ) → BetweenRecords g → IsOk (accounted (uncut g)) → joined_bytes g ≡ accounted (uncut g)
 bytes_grouped g c e = sound_grouped g c (done_sound (uncut g) e)
 
 -- ---- no call is refused
 sound_unrefused : (g : Grouping ℕ) → BetweenRecords g → Sound (uncut g) → NoneRefused g
-sound_unrefused (portion bs) c s = ap (λ (x : Accounted). x.answer) (sound_done bs s)
+sound_unrefused (portion bs) c s = ap is_ok (sound_done bs s)
 sound_unrefused (pair left right) c s =
     let a = uncut left in
     let b = uncut right in
     let cut = between left c.0 in (
       sound_unrefused left c.0 (sound_left a b cut s),
       sound_unrefused right c.1 (sound_right a b cut s),
-      ap (λ (x : Accounted). x.answer) (sound_grouped (pair left right) c s ∙ sound_done (a ++ b) s),
+      ap is_ok (sound_grouped (pair left right) c s ∙ sound_done (a ++ b) s),
     )
 
-pub grouping_done : (g : Grouping ℕ) → BetweenRecords g → GoodPortion (uncut g) → NoneRefused g × (joined_bytes g ≡ done_with (account_of (vehicles (uncut g))))
+pub grouping_done : (g : Grouping ℕ) → BetweenRecords g → GoodPortion (uncut g) → NoneRefused g × (joined_bytes g ≡ Ok (account_of (vehicles (uncut g))))
 grouping_done g c p =
     let s = good_sound (uncut g) p in
     (sound_unrefused g c s, sound_grouped g c s ∙ sound_done (uncut g) s)
 
 -- ---- the same where no call was refused, whatever the cut
-done_grouped : (g : Grouping ℕ) → NoneRefused g → Sound (uncut g) × (joined_bytes g ≡ done_with (account_of (vehicles (uncut g))))
+done_grouped : (g : Grouping ℕ) → NoneRefused g → Sound (uncut g) × (joined_bytes g ≡ Ok (account_of (vehicles (uncut g))))
 done_grouped (portion bs) d = let s = done_sound bs d in (s, sound_done bs s)
 done_grouped (pair left right) d =
     let a = uncut left in
     let b = uncut right in
     let l = done_grouped left d.0 in
     let r = done_grouped right d.1 in
-    let accounts = ap₂ (λ (x y : Accounted). joined x.account y.account) l.1 r.1 in
-    let few = joined_few (vehicles a) (vehicles b) (sym (ap (λ (x : Accounted). x.answer) accounts) ∙ d.2) in
+    let accounts = ap₂ joined_answers l.1 r.1 in
+    let few = joined_few (vehicles a) (vehicles b) (sym (ap is_ok accounts) ∙ d.2) in
     let together : Portion (vehicles a ++ vehicles b) = record { each = every_append GoodHauled (vehicles a) (vehicles b) l.0.hauled.each r.0.hauled.each; few = few } in
     let same = vehicles_append a b l.0.whole in (
       record {
@@ -177,7 +177,7 @@ done_grouped (pair left right) d =
         fine = ap (all good) (records_append a b l.0.whole) ∙ all_append good (records_of a) (records_of b) ∙ ap₂ ◌&&◌ l.0.fine r.0.fine;
         hauled = subst Portion (sym same) together;
       },
-      accounts ∙ joined_accounts (vehicles a) (vehicles b) together ∙ ap (λ (xs : List Vehicle). done_with (account_of xs)) (sym same),
+      accounts ∙ joined_accounts (vehicles a) (vehicles b) together ∙ ap (λ (xs : List Vehicle). Ok (account_of xs)) (sym same),
     )
 
 pub bytes_done : (g : Grouping ℕ) → NoneRefused g → joined_bytes g ≡ accounted (uncut g)

@@ -8,6 +8,7 @@ use mathlib.Core.Bool.{Bool, true, false, cond}
 use mathlib.Core.List.{List, [], ◌∷◌, ◌++◌, map, append-nil}
 use borrow.Author.Tests.{eqb-true}
 use lib.ListN.{length, get_or}
+use Rattle.std.specs.Prelude.{Ok, Err, IsOk}
 use Rattle.lists.specs.Words.{all, leading, Every, Case, case_at, First}
 use Rattle.lists.specs.Figures.{some}
 use Rattle.record.specs.Records.{record_count, records, records_of, is_whole}
@@ -19,13 +20,11 @@ use Rattle.record.proofs.Demands.{found_number_lem, found_place_lem, mistyped_so
 use Rattle.account.specs.Accounts.{account_of, empty, sums}
 use Rattle.account.specs.Ceilings.{◌up_to◌, figures, within, Within}
 use Rattle.account.specs.Joining.{joining}
-use Rattle.account.specs.Answers.{number_of, place_of, first_that_applies, done_with, refused_by}
+use Rattle.account.specs.Answers.{Answer, answer_number, answer_place, answered}
 use Rattle.account.specs.Portions.{portion_refusals, engine_or_bad, accounted, join_refusals, joined}
 use Rattle.account.specs.Groupings.{Hauled, GoodHauled, Portion, GoodPortion, Grouping, uncut, joined_vehicles, joined_bytes, BetweenRecords, NoneRefused}
 use Rattle.account.specs.declared.Account.{Account}
-use Rattle.account.specs.declared.Accounted.{Accounted}
-use Rattle.account.specs.declared.Answer.{Answer}
-use Rattle.account.specs.declared.Answer.TheVariants.{Done, BadField}
+use Rattle.account.specs.declared.Refusal.TheVariants.{BadField}
 use Rattle.account.proofs.Ceils as ceils
 use Rattle.account.proofs.Ceils.{test_within, within_test, portion_ceilings}
 use Rattle.account.proofs.Joins as joins
@@ -38,49 +37,49 @@ use Rattle.account.proofs.Runs.{Ran, ran_joined}
 
 -- ---- answers
 -- the numbers and the places of the refusals, in document 01's order
-pub portion_numbers : (bs : List ℕ) → map (λ (r : Case Answer). number_of r.gives) (portion_refusals bs) ≡ 1 ∷ 2 ∷ 3 ∷ 6 ∷ []
+pub portion_numbers : (bs : List ℕ) → map (λ (r : Case Answer). answer_number r.gives) (portion_refusals bs) ≡ 1 ∷ 2 ∷ 3 ∷ 6 ∷ []
 unfolding portion_refusals
 portion_numbers bs = refl
 
-pub portion_places : (bs : List ℕ) → map (λ (r : Case Answer). place_of r.gives) (portion_refusals bs) ≡ 0 ∷ 0 ∷ leading good (records_of bs) ∷ 0 ∷ []
+pub portion_places : (bs : List ℕ) → map (λ (r : Case Answer). answer_place r.gives) (portion_refusals bs) ≡ 0 ∷ 0 ∷ leading good (records_of bs) ∷ 0 ∷ []
 unfolding portion_refusals
 portion_places bs = refl
 
-pub join_numbers : (left right : Account) → map (λ (r : Case Answer). number_of r.gives) (join_refusals left right) ≡ 7 ∷ 2 ∷ []
+pub join_numbers : (left right : Account) → map (λ (r : Case Answer). answer_number r.gives) (join_refusals left right) ≡ 7 ∷ 2 ∷ []
 unfolding join_refusals
 join_numbers left right = refl
 
-pub join_places : (left right : Account) → map (λ (r : Case Answer). place_of r.gives) (join_refusals left right) ≡ 0 ∷ 0 ∷ []
+pub join_places : (left right : Account) → map (λ (r : Case Answer). answer_place r.gives) (join_refusals left right) ≡ 0 ∷ 0 ∷ []
 unfolding join_refusals
 join_places left right = refl
 
--- each is given when it applies and no earlier one does, and number 0 when none applies
-pub answered_in_order : (rs : List (Case Answer)) (f : First Done rs) → first_that_applies rs ≡ (case_at Done rs f.place).gives
-answered_in_order rs f = first_applies Done rs f.place f.within f.applies f.earlier
+-- each is given when it applies and no earlier one does, and the account when none applies
+pub answered_in_order : (a : Account) (rs : List (Case Answer)) (f : First (Ok a) rs) → answered rs a ≡ (case_at (Ok a) rs f.place).gives
+answered_in_order a rs f = first_applies (Ok a) rs f.place f.within f.applies f.earlier
 
 -- and there always is one that does so, or none applies
-pub first_or_done : (rs : List (Case Answer)) → First Done rs ⊎ Every (λ r. r.applies ≡ false) rs
-first_or_done = first_or_none Done
+pub first_or_done : (a : Account) (rs : List (Case Answer)) → First (Ok a) rs ⊎ Every (λ r. r.applies ≡ false) rs
+first_or_done a = first_or_none (Ok a)
 
-pub done_when_none_applies : (rs : List (Case Answer)) → Every (λ r. r.applies ≡ false) rs → first_that_applies rs ≡ Done
-done_when_none_applies = none_applies Done
+pub done_when_none_applies : (a : Account) (rs : List (Case Answer)) → Every (λ r. r.applies ≡ false) rs → answered rs a ≡ Ok a
+done_when_none_applies a = none_applies (Ok a)
 
 -- refusal 3 has the number and the place of what the scan for it finds
 pub refused_as_found : (bs : List ℕ) → is_whole bs ≡ true → record_count bs ≤ 200 → all good (records_of bs) ≡ false
-    → (number_of (accounted bs).answer ≡ found_number (first_bad (records_of bs))) × (place_of (accounted bs).answer ≡ found_place (first_bad (records_of bs)))
+    → (answer_number (accounted bs) ≡ found_number (first_bad (records_of bs))) × (answer_place (accounted bs) ≡ found_place (first_bad (records_of bs)))
 refused_as_found bs whole few bad =
-    let a = ap (λ (r : Accounted). r.answer) (sym (answer_3 bs (eqb-true (length bs % 24) 0 whole) few (leading good (records_of bs)) (bad, refl))) in (
-      ap number_of a ∙ sym (found_number_lem (records_of bs) ∙ ap (λ (b : Bool). cond b 0 3) bad),
-      ap place_of a ∙ sym (found_place_lem (records_of bs) ∙ ap (λ (b : Bool). cond b 0 (leading good (records_of bs))) bad),
+    let a = sym (answer_3 bs (eqb-true (length bs % 24) 0 whole) few (leading good (records_of bs)) (bad, refl)) in (
+      ap answer_number a ∙ sym (found_number_lem (records_of bs) ∙ ap (λ (b : Bool). cond b 0 3) bad),
+      ap answer_place a ∙ sym (found_place_lem (records_of bs) ∙ ap (λ (b : Bool). cond b 0 (leading good (records_of bs))) bad),
     )
 
 -- ---- one portion
 -- it is done exactly when it is whole records, at most 200, each good, each hauled; and then it has the account of its vehicles
-pub portion_done_exactly : (bs : List ℕ) → ((accounted bs).answer ≡ Done → GoodPortion bs) × (GoodPortion bs → accounted bs ≡ done_with (account_of (vehicles bs)))
+pub portion_done_exactly : (bs : List ℕ) → (IsOk (accounted bs) → GoodPortion bs) × (GoodPortion bs → accounted bs ≡ Ok (account_of (vehicles bs)))
 portion_done_exactly bs = (λ done. sound_good bs (done_sound bs done), λ g. sound_done bs (good_sound bs g))
 
--- request Two: with one digit of one number mistyped it is refused by 3, at that record's place, with the empty account
-pub portion_mistyped : (bs other : List ℕ) (i : ℕ) → is_whole bs ≡ true → record_count bs ≤ 200 → all good (records_of bs) ≡ true → Mistyped bs other i → accounted other ≡ refused_by (BadField i)
+-- request Two: with one digit of one number mistyped it is refused by 3, at that record's place
+pub portion_mistyped : (bs other : List ℕ) (i : ℕ) → is_whole bs ≡ true → record_count bs ≤ 200 → all good (records_of bs) ≡ true → Mistyped bs other i → accounted other ≡ Err (BadField i)
 portion_mistyped bs other i whole few g m =
     sym (answer_3 other (omega (arith, eqb-true (length bs % 24) 0 whole, m.long)) (omega (arith, few, m.long)) i (mistyped_some bs other i m g, mistyped_place bs other i m g))
 
@@ -97,10 +96,10 @@ hauled_not_working = portions.hauled_not_working
 
 -- of at most 200 whole records: 6 or, before it, 3 where there is a working engine; done where all are good and none works
 module _ (bs : List ℕ) (whole : length bs % 24 ≡ 0) (few : record_count bs ≤ 200) where
-  pub answer_6 : some is_working (vehicles bs) ≡ true → refused_by (engine_or_bad (records_of bs)) ≡ accounted bs
+  pub answer_6 : some is_working (vehicles bs) ≡ true → Err (engine_or_bad (records_of bs)) ≡ accounted bs
   answer_6 = portions.answer_6 bs whole few
 
-  pub answer_0 : all good (records_of bs) ≡ true → some is_working (vehicles bs) ≡ false → done_with (account_of (vehicles bs)) ≡ accounted bs
+  pub answer_0 : all good (records_of bs) ≡ true → some is_working (vehicles bs) ≡ false → Ok (account_of (vehicles bs)) ≡ accounted bs
   answer_0 = portions.answer_0 bs whole few
 
 -- ---- the ceilings
@@ -125,27 +124,27 @@ pub portion_within : (hauled : List Vehicle) → Portion hauled → within (acco
 portion_within = joins.portion_within
 
 -- so joining two portions of them is never refused
-pub never_refused : (front back : List Vehicle) → Portion (front ++ back) → joined (account_of front) (account_of back) ≡ done_with (account_of (front ++ back))
+pub never_refused : (front back : List Vehicle) → Portion (front ++ back) → joined (account_of front) (account_of back) ≡ Ok (account_of (front ++ back))
 never_refused = joined_accounts
 
 -- an empty portion is good, and changes nothing, in front or behind
-pub empty_portion : accounted [] ≡ done_with empty
+pub empty_portion : accounted [] ≡ Ok empty
 unfolding portion_refusals all records account_of
 empty_portion = refl
 
-pub empty_portion_in_front : (hauled : List Vehicle) → Portion hauled → joined empty (account_of hauled) ≡ done_with (account_of hauled)
+pub empty_portion_in_front : (hauled : List Vehicle) → Portion hauled → joined empty (account_of hauled) ≡ Ok (account_of hauled)
 empty_portion_in_front hauled h = joined_accounts [] hauled h
 
-pub empty_portion_behind : (hauled : List Vehicle) → Portion hauled → joined (account_of hauled) empty ≡ done_with (account_of hauled)
+pub empty_portion_behind : (hauled : List Vehicle) → Portion hauled → joined (account_of hauled) empty ≡ Ok (account_of hauled)
 empty_portion_behind hauled h =
-    joined_accounts hauled [] (rw append-nil h) ∙ ap (λ (xs : List Vehicle). done_with (account_of xs)) (append-nil hauled)
+    joined_accounts hauled [] (rw append-nil h) ∙ ap (λ (xs : List Vehicle). Ok (account_of xs)) (append-nil hauled)
 
 -- the accounts of the portions, joined in any grouping of neighbours, are the account of the uncut list
-pub any_grouping : (g : Grouping Vehicle) → Portion (uncut g) → joined_vehicles g ≡ done_with (account_of (uncut g))
+pub any_grouping : (g : Grouping Vehicle) → Portion (uncut g) → joined_vehicles g ≡ Ok (account_of (uncut g))
 any_grouping = grouped
 
 -- the same of portions lent as bytes, cut anywhere between records, where the uncut bytes are answered done
-pub any_grouping_of_bytes : (g : Grouping ℕ) → BetweenRecords g → (accounted (uncut g)).answer ≡ Done → joined_bytes g ≡ accounted (uncut g)
+pub any_grouping_of_bytes : (g : Grouping ℕ) → BetweenRecords g → IsOk (accounted (uncut g)) → joined_bytes g ≡ accounted (uncut g)
 any_grouping_of_bytes = bytes_grouped
 
 -- the same whatever the cut and the bytes, where no call was refused
@@ -153,14 +152,14 @@ pub any_grouping_not_refused : (g : Grouping ℕ) → NoneRefused g → joined_b
 any_grouping_not_refused = bytes_done
 
 -- good hauled records, at most 200 in all, cut anywhere between records: no portion and no joining is refused, in any grouping, and the account is the uncut list's
-pub any_grouping_done : (g : Grouping ℕ) → BetweenRecords g → GoodPortion (uncut g) → NoneRefused g × (joined_bytes g ≡ done_with (account_of (vehicles (uncut g))))
+pub any_grouping_done : (g : Grouping ℕ) → BetweenRecords g → GoodPortion (uncut g) → NoneRefused g × (joined_bytes g ≡ Ok (account_of (vehicles (uncut g))))
 any_grouping_done = grouping_done
 
 -- what the code gives, known by its contracts alone, is the account of the uncut bytes
-pub joined_in_code : (g : Grouping ℕ) (r : Accounted) → Ran g r → BetweenRecords g → (accounted (uncut g)).answer ≡ Done → r ≡ accounted (uncut g)
+pub joined_in_code : (g : Grouping ℕ) (r : Answer) → Ran g r → BetweenRecords g → IsOk (accounted (uncut g)) → r ≡ accounted (uncut g)
 joined_in_code g r ran cut done = ran_joined ran ∙ bytes_grouped g cut done
 
-pub done_in_code : (g : Grouping ℕ) (r : Accounted) → Ran g r → BetweenRecords g → GoodPortion (uncut g) → r ≡ done_with (account_of (vehicles (uncut g)))
+pub done_in_code : (g : Grouping ℕ) (r : Answer) → Ran g r → BetweenRecords g → GoodPortion (uncut g) → r ≡ Ok (account_of (vehicles (uncut g)))
 done_in_code g r ran cut good = ran_joined ran ∙ (grouping_done g cut good).1
 
 -- the length set to V is at most the whole, of every list

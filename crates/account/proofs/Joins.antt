@@ -6,6 +6,7 @@ use mathlib.Core.Bool.{Bool, true, false, not, ◌&&◌, ◌||◌, cond}
 use mathlib.Core.List.{List, [], ◌∷◌, ◌++◌}
 use lib.Dec.{ltb, eqb}
 use lib.ListN.{length, length-append}
+use Rattle.std.specs.Prelude.{Ok, Err}
 use Rattle.lists.specs.Words.{Every}
 use Rattle.record.specs.Vehicles.{is_wagon, is_hauled_engine, is_isolated, is_m, is_v, is_r, is_joined, has_matrossow, has_d_load}
 use Rattle.record.specs.declared.vehicle.Vehicle.{Vehicle}
@@ -13,12 +14,10 @@ use Rattle.lists.specs.Figures.{sum, count, some, behind}
 use Rattle.account.specs.Accounts.{account_of, sums}
 use Rattle.account.specs.Ceilings.{within}
 use Rattle.account.specs.Joining.{joining}
-use Rattle.account.specs.Answers.{done_with, refused_by}
 use Rattle.account.specs.Portions.{join_refusals, joined}
-use Rattle.account.specs.Groupings.{Hauled, GoodHauled, Portion, Grouping, portion, pair, uncut, joined_vehicles}
+use Rattle.account.specs.Groupings.{Hauled, GoodHauled, Portion, Grouping, portion, pair, uncut, joined_answers, joined_vehicles}
 use Rattle.account.specs.declared.Account.{Account}
-use Rattle.account.specs.declared.Accounted.{Accounted}
-use Rattle.account.specs.declared.Answer.TheVariants.{TooMany, AboveCeiling}
+use Rattle.account.specs.declared.Refusal.TheVariants.{TooMany, AboveCeiling}
 use Rattle.lists.proofs.Lists.{neither, every_map}
 use Rattle.lists.proofs.Figures.{sum_append, count_append, some_append, leading_append, trailing_append, longest_append, behind_append, some_count, some_same, lack_count, least_append, firsts_append, sum_exchange, length_exchange, sum_less, cond_le}
 use Rattle.account.proofs.Ceils.{within_test, portion_ceilings, portion_left, portion_right}
@@ -75,15 +74,15 @@ each_hauled = every_map GoodHauled Hauled (λ v g. g.hauled)
 
 -- ---- what joining answers, case by case
 module _ (left right : Account) where
-  pub joined_above : (within left && within right) ≡ false → refused_by AboveCeiling ≡ joined left right
+  pub joined_above : (within left && within right) ≡ false → Err AboveCeiling ≡ joined left right
   unfolding join_refusals
   joined_above e = simp e
 
-  pub joined_many : (within left && within right) ≡ true → within (joining left right) ≡ false → refused_by TooMany ≡ joined left right
+  pub joined_many : (within left && within right) ≡ true → within (joining left right) ≡ false → Err TooMany ≡ joined left right
   unfolding join_refusals
   joined_many d e = simp (d, e)
 
-  pub joined_done : (within left && within right) ≡ true → within (joining left right) ≡ true → done_with (joining left right) ≡ joined left right
+  pub joined_done : (within left && within right) ≡ true → within (joining left right) ≡ true → Ok (joining left right) ≡ joined left right
   unfolding join_refusals
   joined_done d e = simp (d, e)
 
@@ -92,18 +91,18 @@ pub portion_within : (xs : List Vehicle) → Portion xs → within (account_of x
 portion_within xs h = within_test (account_of xs) (portion_ceilings xs h)
 
 pub joined_accounts : (xs ys : List Vehicle) → Portion (xs ++ ys)
-    → joined (account_of xs) (account_of ys) ≡ done_with (account_of (xs ++ ys))
+    → joined (account_of xs) (account_of ys) ≡ Ok (account_of (xs ++ ys))
 joined_accounts xs ys h =
     let left = portion_left xs ys h in
     let same = account_append xs ys (each_hauled xs left.each) in
     sym (joined_done (account_of xs) (account_of ys) (ap₂ ◌&&◌ (portion_within xs left) (portion_within ys (portion_right xs ys h))) (ap within (sym same) ∙ portion_within (xs ++ ys) h))
-    ∙ ap done_with (sym same)
+    ∙ ap (λ (a : Account). Ok a) (sym same)
 
 -- the accounts of the portions, joined in any grouping of neighbours, are the account of the uncut list
-pub grouped : (g : Grouping Vehicle) → Portion (uncut g) → joined_vehicles g ≡ done_with (account_of (uncut g))
+pub grouped : (g : Grouping Vehicle) → Portion (uncut g) → joined_vehicles g ≡ Ok (account_of (uncut g))
 grouped (portion xs) h = refl
 grouped (pair left right) h =
-    ap₂ (λ (a b : Accounted). joined a.account b.account)
+    ap₂ joined_answers
     (grouped left (portion_left (uncut left) (uncut right) h))
     (grouped right (portion_right (uncut left) (uncut right) h))
     ∙ joined_accounts (uncut left) (uncut right) h

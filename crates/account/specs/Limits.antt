@@ -1,14 +1,14 @@
 -- Document 01's account held to the page: each figure at its ceiling and one above, accounts of two lists, their marks, joinings of accounts that no list has, and answers.
-use Rattle.std.specs.Prelude.{ℕ, Bool, true, false, List, [], ◌∷◌, ◌++◌, map, get_or, replicate}
+use Rattle.std.specs.Prelude.{ℕ, Bool, true, false, List, [], ◌∷◌, ◌++◌, map, get_or, replicate, Err}
 use Rattle.record.specs.Limits.{engine, wagon, hauled_engine}
 use Rattle.record.specs.declared.vehicle.Vehicle.{Vehicle}
 use Rattle.account.specs.Accounts.{account_of}
 use Rattle.account.specs.Ceilings.{within}
 use Rattle.account.specs.Joining.{joining}
-use Rattle.account.specs.Answers.{number_of, place_of}
+use Rattle.account.specs.Answers.{Answer, answer_number, answer_place}
 use Rattle.account.specs.Portions.{accounted, joined}
 use Rattle.account.specs.declared.Account.{Account}
-use Rattle.account.specs.declared.Accounted.{Accounted}
+use Rattle.account.specs.declared.Refusal.TheVariants.{NotWhole, TooMany, BadField, WorkingEngine, AboveCeiling}
 
 -- ---- accounts by their figures
 -- an account that says these figures, in the page's order: count; mass, V masses, M masses, length; axles, those set to V, hauled engines, records set to M, isolated, D loads;
@@ -290,19 +290,22 @@ fives_joined =
     ∷ []
 
 -- ---- answers: number and place
-abbrev answer_of : Accounted → ℕ × ℕ
-answer_of r = (number_of r.answer, place_of r.answer)
+abbrev answer_of : Answer → ℕ × ℕ
+answer_of r = (answer_number r, answer_place r)
 
--- 1, 2, 3, 6 of a portion, 7 and 2 of joining: a refusal returns the empty account
-abbrev pub refused_accounts : List Account
+-- 1, 2, 3, 6 of a portion, 7 and 2 of joining: a refusal holds no account
+abbrev pub refused_accounts : List Answer
 refused_accounts =
-    (accounted (replicate 23 0)).account
-    ∷ (accounted (replicate 4824 0)).account
-    ∷ (accounted (replicate 24 0)).account
-    ∷ (accounted engine).account
-    ∷ (joined (alone 0 201) (alone 0 0)).account
-    ∷ (joined (alone 0 150) (alone 0 51)).account
+    accounted (replicate 23 0)
+    ∷ accounted (replicate 4824 0)
+    ∷ accounted (replicate 24 0)
+    ∷ accounted engine
+    ∷ joined (alone 0 201) (alone 0 0)
+    ∷ joined (alone 0 150) (alone 0 51)
     ∷ []
+
+abbrev pub refusals_alone : List Answer
+refusals_alone = Err NotWhole ∷ Err TooMany ∷ Err (BadField 0) ∷ Err WorkingEngine ∷ Err AboveCeiling ∷ Err TooMany ∷ []
 
 abbrev pub answers : List (ℕ × ℕ)
 answers =

@@ -1,40 +1,8 @@
-// The figures of one account: the empty one, the ceilings.
+// The figures of one account: the ceilings.
 ghost use Rattle.std.specs.Prelude.{◌≡◌};
-ghost use Rattle.account.specs.Accounts.{empty};
 ghost use Rattle.account.specs.Ceilings.{within};
 
 use crate::Account;
-
-pub(crate) fn empty_account() -> Account
-    ensures { result ≡ empty }
-{
-    Account {
-        count: 0,
-        mass: 0,
-        vmass: 0,
-        mmass: 0,
-        length: 0,
-        axles: 0,
-        vaxles: 0,
-        engines: 0,
-        mset: 0,
-        isolated: 0,
-        dloads: 0,
-        leading: 0,
-        trailing: 0,
-        longest: 0,
-        behind: false,
-        rule16: false,
-        rule17: false,
-        rule18: false,
-        slowest: 200,
-        first: [4; 5],
-        vlength: 0,
-        enginemmass: 0,
-        wagonvmass: 0,
-        enginenotm: false,
-    }
-}
 
 // Whether no figure is above its ceiling.
 pub(crate) fn is_within(a: Account) -> bool

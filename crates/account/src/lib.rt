@@ -3,7 +3,6 @@
 
 ghost use Rattle.std.specs.Prelude.{◌≡◌};
 ghost use Rattle.record.specs.Records.{records_of};
-ghost use Rattle.account.specs.Answers.{done_with, refused_by};
 ghost use Rattle.account.specs.Ceilings.{within};
 ghost use Rattle.account.specs.Portions.{accounted, engine_or_bad, joined};
 
@@ -55,10 +54,9 @@ pub struct Account {
     pub enginenotm: bool,
 }
 
-#[derive(Clone, Copy)]
-pub enum Answer {
-    // 0
-    Done,
+// Why there is no account, with its number among the answers, in which 0 is done.
+#[derive(Clone, Copy, PartialEq, Eq)]
+pub enum Refusal {
     // 1: not a multiple of 24 bytes
     NotWhole,
     // 2: more than 200 records, or a joined figure above its ceiling
@@ -71,53 +69,26 @@ pub enum Answer {
     AboveCeiling,
 }
 
-// The answer beside the account: an enum can't hold the array of five.
-#[derive(Clone, Copy)]
-pub struct Accounted {
-    pub answer: Answer,
-    pub account: Account,
-}
-
-// Number 0.
-fn done(account: Account) -> Accounted
-    ensures { result ≡ done_with account }
-{
-    Accounted {
-        answer: Answer::Done,
-        account: account,
-    }
-}
-
-// A refusal returns the empty account.
-fn refused(answer: Answer) -> Accounted
-    ensures { result ≡ refused_by answer }
-{
-    Accounted {
-        answer: answer,
-        account: figure::empty_account(),
-    }
-}
-
 // Refusal 6 of a portion that has a working engine, unless 3 applies.
-fn engine_or_bad(portion: &[u8]) -> Answer
+fn engine_or_bad(portion: &[u8]) -> Refusal
     ensures { result ≡ engine_or_bad (records_of portion.now) }
 {
     match first_bad(portion) {
-        Found::At(place) => Answer::BadField(place),
-        Found::Nothing => Answer::WorkingEngine,
+        Found::At(place) => Refusal::BadField(place),
+        Found::Nothing => Refusal::WorkingEngine,
     }
 }
 
 // The account of a portion of hauled vehicles.
-pub fn account_of(portion: &[u8]) -> Accounted
+pub fn account_of(portion: &[u8]) -> Result<Account, Refusal>
     ensures { result ≡ accounted portion.now }
 {
     if portion.len() % SIZE != 0 {
-        return refused(Answer::NotWhole);
+        return Err(Refusal::NotWhole);
     }
     let n = portion.len() / SIZE;
     if MOST < n {
-        return refused(Answer::TooMany);
+        return Err(Refusal::TooMany);
     }
     let mut running = gather::none_yet();
     let mut sums = [0u32; SUMS];
@@ -126,17 +97,17 @@ pub fn account_of(portion: &[u8]) -> Accounted
     while i < n {
         let at = SIZE * i;
         let Reading::Good(vehicle) = read(&portion[at..at + SIZE]) else {
-            return refused(Answer::BadField(i));
+            return Err(Refusal::BadField(i));
         };
         if vehicle.kind == 2 {
-            return refused(engine_or_bad(portion));
+            return Err(engine_or_bad(portion));
         }
         add_by_setting(&mut sums, vehicle);
         set_at(&mut first, i, vehicle.setting);
         running = with_one(running, vehicle);
         i += 1;
     }
-    done(account_from(portion, running, sums, first))
+    Ok(account_from(portion, running, sums, first))
 }
 
 // Whether an account has no figure above its ceiling; 7 is for the rest.
@@ -147,15 +118,15 @@ pub fn within_ceilings(account: Account) -> bool
 }
 
 // The account of two portions, from their accounts.
-pub fn join(left: Account, right: Account) -> Accounted
+pub fn join(left: Account, right: Account) -> Result<Account, Refusal>
     ensures { result ≡ joined left right }
 {
     if !(figure::is_within(left) & figure::is_within(right)) {
-        return refused(Answer::AboveCeiling);
+        return Err(Refusal::AboveCeiling);
     }
     let account = joining::add(left, right);
     if !figure::is_within(account) {
-        return refused(Answer::TooMany);
+        return Err(Refusal::TooMany);
     }
-    done(account)
+    Ok(account)
 }

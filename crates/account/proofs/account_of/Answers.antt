@@ -9,7 +9,9 @@ use Rattle.record.proofs.Records.{record_at}
 use Rattle.record.specs.Vehicles.{vehicle, vehicles, is_working}
 use Rattle.record.specs.declared.vehicle.Vehicle.{Vehicle}
 use Rattle.record.proofs.Vehicles.{part_good, part_bad, records_more, first_place_lem}
-use Rattle.account.specs.Answers.{done_with, refused_by}
+use Rattle.std.specs.Prelude.{Ok, Err}
+use Rattle.account.specs.declared.Account.{Account}
+use Rattle.account.specs.declared.Refusal.{Refusal}
 use Rattle.account.proofs.Gathers.{Turn, turn, gathered_more}
 use Rattle.account.proofs.Portions.{none_working, working_there, answer_1, answer_2, answer_3, answer_6, answer_0}
 use Rattle.account.proofs.account_of.Goals as goal
@@ -21,10 +23,10 @@ here e =
     turn e.args.portion.now e.loop-i.i _ (sym e.in-Good.is ∙ e.read.ensures) e.if-vehicle-eq2.false (omega (arith, e.if-n-gt-MOST.false)) _ _ _ e.loop-i.invariant.2
 
 pub returns-then-portion-ne0 : goal.returns-then-portion-ne0
-returns-then-portion-ne0 c = c.refused.ensures ∙ answer_1 _ c.if-portion-ne0.true
+returns-then-portion-ne0 c = answer_1 _ c.if-portion-ne0.true
 
 pub returns-then-n-gt-MOST : goal.returns-then-n-gt-MOST
-returns-then-n-gt-MOST c = c.refused-then-n-gt-MOST.ensures ∙ answer_2 c.args.portion.now c.if-portion-ne0.false (omega (arith, c.if-n-gt-MOST.true))
+returns-then-n-gt-MOST c = answer_2 c.args.portion.now c.if-portion-ne0.false (omega (arith, c.if-n-gt-MOST.true))
 
 pub loop-i-init : goal.loop-i-init
 unfolding all records
@@ -35,16 +37,14 @@ pub returns-in_default : goal.returns-in_default
 returns-in_default c =
     let bs = c.args.portion.now in
     let bad = part_bad bs c.loop-i.i (sym c.in_default.is ∙ c.read.ensures) in
-    c.refused-in_default.ensures
-    ∙ answer_3 bs c.if-portion-ne0.false c.if-n-gt-MOST.false c.loop-i.i (first_place_lem _ c.loop-i.i bs c.loop-i-test.true c.loop-i.invariant.1 bad)
+    answer_3 bs c.if-portion-ne0.false c.if-n-gt-MOST.false c.loop-i.i (first_place_lem _ c.loop-i.i bs c.loop-i-test.true c.loop-i.invariant.1 bad)
 
 pub returns-then-vehicle-eq2 : goal.returns-then-vehicle-eq2
 returns-then-vehicle-eq2 c =
     let bs = c.args.portion.now in
     let g = part_good bs c.loop-i.i _ (sym c.in-Good.is ∙ c.read.ensures) in
     let w : is_working (vehicle (record_at bs c.loop-i.i)) ≡ true = eq-eqb _ 2 (sym (ap (λ (v : Vehicle). v.kind) g.1) ∙ c.if-vehicle-eq2.true) in
-    c.refused-then-vehicle-eq2.ensures
-    ∙ ap refused_by c.engine_or_bad.ensures
+    ap (λ (r : Refusal). Err r) c.engine_or_bad.ensures
     ∙ answer_6 bs c.if-portion-ne0.false c.if-n-gt-MOST.false (working_there bs c.loop-i.i c.loop-i-test.true w)
 
 pub add_by_setting-requires : goal.add_by_setting-requires
@@ -74,6 +74,5 @@ returns c =
     let end : c.loop-i.i ≡ record_count bs = omega arith in
     let good = c.loop-i.invariant.1 in
     let each = c.loop-i.invariant.2.each in
-    c.done.ensures
-    ∙ ap done_with c.account_from.ensures
+    ap (λ (a : Account). Ok a) c.account_from.ensures
     ∙ answer_0 bs c.if-portion-ne0.false c.if-n-gt-MOST.false (rw end at good) (none_working (vehicles bs) (rw end at each))

@@ -5,7 +5,7 @@ use Rattle.lists.specs.Words.{all, leading}
 use Rattle.record.specs.Records.{records_of}
 use Rattle.record.specs.Vehicles.{good}
 use Rattle.record.proofs.Vehicles.{is_nothing, bad_is, bad_place}
-use Rattle.account.specs.declared.Answer.TheVariants.{BadField, WorkingEngine}
+use Rattle.account.specs.declared.Refusal.TheVariants.{BadField, WorkingEngine}
 use Rattle.account.proofs.engine_or_bad.Goals as goal
 
 pub returns-in-At : goal.returns-in-At

@@ -3,13 +3,14 @@ use mathlib.Core.Path.{sym, ap, ap₂, ◌∙◌}
 use mathlib.Core.Bool.{◌&&◌}
 use Rattle.lists.proofs.Lists.{both}
 use Rattle.account.specs.Ceilings.{within}
-use Rattle.account.specs.Answers.{done_with}
+use Rattle.std.specs.Prelude.{Ok}
+use Rattle.account.specs.declared.Account.{Account}
 use Rattle.account.proofs.Ceils.{test_within}
 use Rattle.account.proofs.Joins.{joined_above, joined_many, joined_done}
 use Rattle.account.proofs.join.Goals as goal
 
 pub returns-then-not-is_within : goal.returns-then-not-is_within
-returns-then-not-is_within c = c.refused.ensures ∙ joined_above _ _ (sym (ap₂ ◌&&◌ c.is_within.ensures c.is_within-2.ensures) ∙ c.if-not-is_within.true)
+returns-then-not-is_within c = joined_above _ _ (sym (ap₂ ◌&&◌ c.is_within.ensures c.is_within-2.ensures) ∙ c.if-not-is_within.true)
 
 pub add-account-requires : goal.add-account-requires
 add-account-requires c =
@@ -19,15 +20,13 @@ add-account-requires c =
 
 pub returns-then-not-is_within-2 : goal.returns-then-not-is_within-2
 returns-then-not-is_within-2 c =
-    c.refused-then-not-is_within-2.ensures
-    ∙ joined_many _ _
+    joined_many _ _
     (sym (ap₂ ◌&&◌ c.is_within.ensures c.is_within-2.ensures) ∙ c.if-not-is_within.false)
     (ap within (sym c.add-account.ensures) ∙ sym c.is_within-3.ensures ∙ c.if-not-is_within-2.true)
 
 pub returns : goal.returns
 returns c =
-    c.done.ensures
-    ∙ ap done_with c.add-account.ensures
+    ap (λ (a : Account). Ok a) c.add-account.ensures
     ∙ joined_done _ _
     (sym (ap₂ ◌&&◌ c.is_within.ensures c.is_within-2.ensures) ∙ c.if-not-is_within.false)
     (ap within (sym c.add-account.ensures) ∙ sym c.is_within-3.ensures ∙ c.if-not-is_within-2.false)
