@@ -7,7 +7,7 @@ use Rattle.order.specs.declared.Order.{Order}
 use Rattle.categories.specs.Categories.{rows_of}
 use Rattle.rules.specs.Books.{Sound}
 use Rattle.rules.specs.CrossBorder.{cross_border}
-use Rattle.rules.specs.Grants.{best_of, offers_from, granted_of, decision_of}
+use Rattle.rules.specs.Grants.{best_of, granted_of, decision_of}
 use Rattle.rules.proofs.Demands as cross
 use Rattle.domestic.proofs.Demands as domestic
 use Rattle.books.specs.Books.{book_of}
@@ -29,8 +29,8 @@ pub cross_border_kept : book_of CrossBorder ≡ cross_border
 unfolding book_of
 cross_border_kept = refl
 
--- what is granted is the best of the numbers and speeds that are decided
-pub granted_of_decided : (b : Book) (f : Facts) (o : Order) → best_of o.asked (offers_from 1 (decision_of (book_of b) f o).broken (decision_of (book_of b) f o).speeds) ≡ granted_of (book_of b) f o
+-- what is granted is the best of what is decided to be offered
+pub granted_of_decided : (b : Book) (f : Facts) (o : Order) → best_of o.asked (decision_of (book_of b) f o).offers ≡ granted_of (book_of b) f o
 unfolding book_of
 granted_of_decided CrossBorder = cross.granted_of_decided
 granted_of_decided Domestic = domestic.granted_of_decided

@@ -13,7 +13,7 @@ use Rattle.categories.specs.Brakes.{margin_for}
 use Rattle.categories.specs.declared.category.Category.{Category}
 use Rattle.rules.specs.Rules.{rule, numbers_of}
 use Rattle.rules.specs.Books.{rules_of, Sound}
-use Rattle.rules.specs.Grants.{best_of, offers_from, offer_of, granted_of, decision_of}
+use Rattle.rules.specs.Grants.{best_of, offer_of, granted_of, decision_of}
 use Rattle.domestic.specs.Rules.{terms_of, domestic}
 
 -- its rows are the table's six categories
@@ -44,7 +44,7 @@ pub rule_88 : (c : Category) (f : Facts) (o : Order) → case_at 0 (rules_of dom
 unfolding domestic terms_of
 rule_88 c f o = refl
 
--- what is granted is the best of the numbers and speeds that are decided
-pub granted_of_decided : (f : Facts) (o : Order) → best_of o.asked (offers_from 1 (decision_of domestic f o).broken (decision_of domestic f o).speeds) ≡ granted_of domestic f o
+-- what is granted is the best of what is decided to be offered
+pub granted_of_decided : (f : Facts) (o : Order) → best_of o.asked (decision_of domestic f o).offers ≡ granted_of domestic f o
 unfolding decision_of granted_of offer_of domestic
 granted_of_decided f o = refl

@@ -48,11 +48,5 @@ pub fn decide_domestic(f: Facts, o: Order) -> Decision
     let x4 = offered_ma(ma, Category::MA100, f, o);
     let x5 = offered_ma(ma, Category::MA90, f, o);
     let x6 = offered_ma(ma, Category::MA80, f, o);
-    decided(
-        o.asked,
-        [
-            x1.broken, x2.broken, x3.broken, x4.broken, x5.broken, x6.broken,
-        ],
-        [x1.speed, x2.speed, x3.speed, x4.speed, x5.speed, x6.speed],
-    )
+    decided(o.asked, [x1, x2, x3, x4, x5, x6])
 }

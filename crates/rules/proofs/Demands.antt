@@ -3,6 +3,7 @@ use Prim.Native.Nat.{ℕ, ◌≤◌, ◌<◌}
 use native.Mathlib.Omega.{arith}
 use mathlib.Core.Path.{◌≡◌, refl, ap}
 use mathlib.Core.Bool.{true, false, not, ◌&&◌, cond}
+use Rattle.std.specs.Prelude.{Option}
 use mathlib.Core.List.{List, [], ◌∷◌, ◌++◌, map, foldr}
 use mathlib.Core.Logic.{◌⊎◌}
 use lib.IntN.{pos}
@@ -24,7 +25,7 @@ use Rattle.rules.specs.Rules.{Rule, rule, first_broken, numbers_of, is_short, te
 use Rattle.rules.specs.Books.{RuleBook, rules_of, broken_by, Rise, Sound}
 use Rattle.rules.specs.CrossBorder.{own_rules, cross_border}
 use Rattle.rules.specs.Withdrawn.{stood, former_book, longer_than_all, NotReached, formerly}
-use Rattle.rules.specs.Grants.{offer, stands, offer_of, better_of, best_of, absent_rule, granted_of, decision_of, offers_from, MayBeGranted, Among, Offered, Stands, Granted, KeepsNumber, Standing}
+use Rattle.rules.specs.Grants.{offer, stands, offer_of, better_of, best_of, absent_rule, granted_of, granted_number, granted_speed, decision_of, MayBeGranted, Among, Offered, Stands, Granted, KeepsNumber, Standing}
 use Rattle.rules.specs.declared.grant.Offer.{Offer}
 use Rattle.rules.specs.declared.grant.Best.{Best}
 use Rattle.rules.proofs.Grants as grants
@@ -137,11 +138,11 @@ pub stands_exactly : (asked : ℕ) (x : Offer)
 stands_exactly = offers.stands_exactly
 
 -- where none stands none is granted
-pub none_exactly : (asked : ℕ) (os : List Offer) (g : Best) → Granted asked os g → ((n s : ℕ) → Stands asked os n s → ⊥) → g.number ≡ 0
+pub none_exactly : (asked : ℕ) (os : List Offer) (g : Option Best) → Granted asked os g → ((n s : ℕ) → Stands asked os n s → ⊥) → granted_number g ≡ 0
 none_exactly = grants.none_exactly
 
 -- a category that a book does not have is passed over, whatever its number and speed
-pub absent_passed : (asked n speed : ℕ) (rest : Best) → better_of asked (offer n speed absent_rule) rest ≡ rest
+pub absent_passed : (asked n speed : ℕ) (rest : Option Best) → better_of asked (offer n speed absent_rule) rest ≡ rest
 absent_passed = offers.absent_passed
 
 -- of rows offered in any way that keeps their numbers
@@ -173,34 +174,34 @@ module _ (b : RuleBook) (f : Facts) (o : Order) where
     zero_exactly c = (zero_none (rules_of b c f o) (sound.numbered c f o), no_rule (rules_of b c f o))
 
     -- no category is granted exactly when every one from the asked on breaks a rule
-    pub none_granted : (granted_of b f o).number ≡ 0 → (c : Category) → Among c b.rows → MayBeGranted b f o c → ⊥
+    pub none_granted : granted_number (granted_of b f o) ≡ 0 → (c : Category) → Among c b.rows → MayBeGranted b f o c → ⊥
     none_granted e c a m = (is_granted b f o sound.rising).none e c.number (speed_of c f o) (may_offered b f o c a m)
 
-    pub all_broken : ((c : Category) → Among c b.rows → MayBeGranted b f o c → ⊥) → (granted_of b f o).number ≡ 0
+    pub all_broken : ((c : Category) → Among c b.rows → MayBeGranted b f o c → ⊥) → granted_number (granted_of b f o) ≡ 0
     all_broken h =
         grants.none_exactly o.asked _ (granted_of b f o) (is_granted b f o sound.rising)
         (λ n s w. let x = offered_may b f o n s w in h x.category x.among x.may)
 
     -- and then there is no speed
-    pub no_speed_lem : (granted_of b f o).number ≡ 0 → (granted_of b f o).speed ≡ 0
+    pub no_speed_lem : granted_number (granted_of b f o) ≡ 0 → granted_speed (granted_of b f o) ≡ 0
     no_speed_lem = (is_granted b f o sound.rising).no_speed
 
     -- the one granted is the asked or a greater one that breaks no rule, at its own speed
-    pub granted_stands : 0 < (granted_of b f o).number → Offered b f o (granted_of b f o).number (granted_of b f o).speed
-    granted_stands p = offered_may b f o (granted_of b f o).number (granted_of b f o).speed ((is_granted b f o sound.rising).one p)
+    pub granted_stands : 0 < granted_number (granted_of b f o) → Offered b f o (granted_number (granted_of b f o)) (granted_speed (granted_of b f o))
+    granted_stands p = offered_may b f o (granted_number (granted_of b f o)) (granted_speed (granted_of b f o)) ((is_granted b f o sound.rising).one p)
 
     -- none that may be granted is faster, and none as fast has a lower number
-    pub granted_is_fastest : (c : Category) → Among c b.rows → MayBeGranted b f o c → speed_of c f o ≤ (granted_of b f o).speed
+    pub granted_is_fastest : (c : Category) → Among c b.rows → MayBeGranted b f o c → speed_of c f o ≤ granted_speed (granted_of b f o)
     granted_is_fastest c a m = (is_granted b f o sound.rising).fastest c.number (speed_of c f o) (may_offered b f o c a m)
 
-    pub lowest_at_a_tie : (c : Category) → Among c b.rows → MayBeGranted b f o c → speed_of c f o ≡ (granted_of b f o).speed → (granted_of b f o).number ≤ c.number
+    pub lowest_at_a_tie : (c : Category) → Among c b.rows → MayBeGranted b f o c → speed_of c f o ≡ granted_speed (granted_of b f o) → granted_number (granted_of b f o) ≤ c.number
     lowest_at_a_tie c a m e = (is_granted b f o sound.rising).lowest c.number (speed_of c f o) (may_offered b f o c a m) e
 
--- what is granted is the best of the numbers and speeds that are decided
-pub granted_of_decided : (f : Facts) (o : Order) → best_of o.asked (offers_from 1 (decision_of cross_border f o).broken (decision_of cross_border f o).speeds) ≡ granted_of cross_border f o
+-- what is granted is the best of what is decided to be offered
+pub granted_of_decided : (f : Facts) (o : Order) → best_of o.asked (decision_of cross_border f o).offers ≡ granted_of cross_border f o
 unfolding decision_of granted_of offer_of cross_border
-granted_of_decided f o = ap (front f o) (absent_passed o.asked 6 0 (best_of o.asked []))
+granted_of_decided f o = ap (front f o) (absent_passed o.asked 0 0 (best_of o.asked []))
   where
     -- the five, in front of what is best behind them
-    front : Facts → Order → Best → Best
+    front : Facts → Order → Option Best → Option Best
     front f o last = foldr (λ c rest. better_of o.asked (offer_of cross_border f o c) rest) last cross_border.rows

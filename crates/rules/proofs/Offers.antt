@@ -2,18 +2,18 @@
 use Prim.Native.Nat.{ℕ, ◌≤◌, ◌<◌}
 use mathlib.Core.Path.{◌≡◌, refl, sym, ap, ap₂, ◌∙◌, subst}
 use mathlib.Core.Bool.{Bool, true, false, ◌&&◌, cond}
+use Rattle.std.specs.Prelude.{Option, Some}
 use mathlib.Core.List.{List, [], ◌∷◌, map}
 use mathlib.Core.Logic.{inl, inr}
 use borrow.Author.Tests.{le-leb, leb-true, eq-eqb, eqb-true}
 use lib.Dec.{leb, eqb}
-use Rattle.lists.specs.Words.{◌at_most◌}
 use Rattle.lists.proofs.Lists.{both}
 use Rattle.facts.specs.declared.Facts.{Facts}
 use Rattle.order.specs.declared.Order.{Order}
 use Rattle.categories.specs.Categories.{speed_of}
 use Rattle.categories.specs.declared.category.Category.{Category}
 use Rattle.rules.specs.Books.{RuleBook, Rise}
-use Rattle.rules.specs.Grants.{offer, stands, better_of, best_of, absent_rule, offer_of, offers_of, granted_of, MayBeGranted, Among, Offered, Stands, Rising, Granted, KeepsNumber, Standing}
+use Rattle.rules.specs.Grants.{offer, stands, none_faster, better_of, best_of, absent_rule, offer_of, offers_of, granted_of, MayBeGranted, Among, Offered, Stands, Rising, Granted, KeepsNumber, Standing}
 use Rattle.rules.specs.declared.grant.Offer.{Offer}
 use Rattle.rules.specs.declared.grant.Best.{Best}
 use Rattle.rules.proofs.Grants.{best_granted}
@@ -28,10 +28,10 @@ stands_exactly asked x = (apart, λ h e. ap₂ ◌&&◌ (le-leb asked x.number h
     apart e = let t = both (leb asked x.number) (eqb x.broken 0) e in (leb-true asked x.number t.0, eqb-true x.broken 0 t.1)
 
 -- a category that a book does not have is passed over
-pub absent_passed : (asked n speed : ℕ) (rest : Best) → better_of asked (offer n speed absent_rule) rest ≡ rest
+pub absent_passed : (asked n speed : ℕ) (rest : Option Best) → better_of asked (offer n speed absent_rule) rest ≡ rest
 absent_passed asked n speed rest = go (leb asked n)
   where
-    go : (b : Bool) → cond ((b && false) && rest.speed at_most speed) (record { number = n; speed = speed }) rest ≡ rest
+    go : (b : Bool) → cond ((b && false) && none_faster speed rest) (Some (record { number = n; speed = speed })) rest ≡ rest
     go true = refl
     go false = refl
 

@@ -14,7 +14,7 @@ use Rattle.rules.specs.contracts.grant.decide_cross_border as decide
 use Rattle.rules.proofs.grant.decide_cross_border.Kinds as decide-kinds
 use Rattle.rules.proofs.grant.decide_cross_border.Reads as decide-reads
 
-pub choose_unique : (κs : Lfts 0) (a : ArgsD choose.signature κs) {r r' : ResD choose.signature κs} (s s' : AtExit (ended_of 0 choose-kinds.ps choose-kinds.r) κs)
+pub choose_unique : (κs : Lfts 1) (a : ArgsD choose.signature κs) {r r' : ResD choose.signature κs} (s s' : AtExit (ended_of 1 choose-kinds.ps choose-kinds.r) κs)
     → choose-reads.Post κs a r s → choose-reads.Post κs a r' s' → r ≡ r'
 choose_unique κs a s s' p q = p ∙ sym q
 

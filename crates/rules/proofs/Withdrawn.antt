@@ -17,7 +17,7 @@ use Rattle.categories.specs.declared.category.Category.{Category}
 use Rattle.rules.specs.Rules.{rule, first_broken, is_short, terms_of}
 use Rattle.rules.specs.Books.{broken_by}
 use Rattle.rules.specs.CrossBorder.{common_rules, cross_rules, cross_border}
-use Rattle.rules.specs.Grants.{offer, offer_of, best_of, granted_of, six_of, absent_rule, decision_of}
+use Rattle.rules.specs.Grants.{offer, offer_of, best_of, granted_of, six_of, decision_of}
 use Rattle.rules.specs.Withdrawn.{rule46, stood, former_rules, former_book, longer_than_all, NotReached}
 use Rattle.rules.specs.declared.rule.Terms.{Terms}
 use Rattle.rules.proofs.Rules.{first_some, zero_none, one_less, put_in, first_has}
@@ -90,12 +90,6 @@ module _ (f : Facts) (elsewhere : longer_than_all f ≡ false) where
   granted_kept o = λ i. best_of o.asked (map (λ c. offer c.number (speed_of c f o) (broken_kept c o i)) cross_border.rows)
 
   pub decision_kept : (o : Order) → decision_of former_book f o ≡ decision_of cross_border f o
-  unfolding decision_of former_book
+  unfolding decision_of offer_of former_book
   decision_kept o =
-      λ i.
-      record {
-        broken = six_of absent_rule (map (λ c. broken_kept c o i) cross_border.rows);
-        speeds = six_of 0 (map (λ c. speed_of c f o) cross_border.rows);
-        granted = (granted_kept o i).number;
-        speed = (granted_kept o i).speed;
-      }
+      λ i. record { offers = six_of (map (λ c. offer c.number (speed_of c f o) (broken_kept c o i)) cross_border.rows); granted = granted_kept o i }

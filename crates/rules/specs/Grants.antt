@@ -1,5 +1,5 @@
 -- Document 01, "The sheet": the first rule broken by each category, and the category granted, of any rule book.
-use Rattle.std.specs.Prelude.{ℕ, suc, ◌≤◌, ◌<◌, ◌≡◌, Bool, true, ◌&&◌, cond, List, [], ◌∷◌, ◌++◌, map, take, replicate, ◌⊎◌}
+use Rattle.std.specs.Prelude.{ℕ, ◌≤◌, ◌<◌, ◌≡◌, Bool, true, ◌&&◌, cond, Option, None, Some, List, [], ◌∷◌, ◌++◌, map, take, replicate, ◌⊎◌}
 use Rattle.lists.specs.Words.{◌is◌, ◌at_most◌}
 use Rattle.facts.specs.declared.Facts.{Facts}
 use Rattle.order.specs.declared.Order.{Order}
@@ -24,51 +24,50 @@ offers_of b f o = map (offer_of b f o) b.rows
 abbrev pub stands : ℕ → Offer → Bool
 stands asked x = asked at_most x.number && x.broken is 0
 
--- an offer that stands goes before the best of those behind it unless that one is faster
-abbrev pub better_of : ℕ → Offer → Best → Best
-better_of asked x rest = cond (stands asked x && rest.speed at_most x.speed) (record { number = x.number; speed = x.speed }) rest
+-- no faster one is granted of those behind
+abbrev pub none_faster : ℕ → Option Best → Bool
+none_faster speed None = true
+none_faster speed (Some best) = best.speed at_most speed
 
--- of greatest speed among those that stand, the lowest number at a tie; 0 and 0 where none stands
-abbrev pub best_of : ℕ → List Offer → Best
-best_of asked [] = record { number = 0; speed = 0 }
+-- an offer that stands goes before the best of those behind it unless that one is faster
+abbrev pub better_of : ℕ → Offer → Option Best → Option Best
+better_of asked x rest = cond (stands asked x && none_faster x.speed rest) (Some (record { number = x.number; speed = x.speed })) rest
+
+-- of greatest speed among those that stand, the lowest number at a tie; nothing where none stands
+abbrev pub best_of : ℕ → List Offer → Option Best
+best_of asked [] = None
 best_of asked (x ∷ rest) = better_of asked x (best_of asked rest)
 
-unfoldable pub granted_of : RuleBook → Facts → Order → Best
+unfoldable pub granted_of : RuleBook → Facts → Order → Option Best
 granted_of b f o = best_of o.asked (offers_of b f o)
 
--- a book has at most six categories; of one that it does not have
-abbrev pub six_of : ℕ → List ℕ → List ℕ
-six_of absent xs = take 6 (xs ++ replicate 6 absent)
+-- the number granted and its speed, as a sheet shows them: 0 and 0 where none is
+abbrev pub granted_number : Option Best → ℕ
+granted_number None = 0
+granted_number (Some best) = best.number
 
--- no rule has this number: a category that the book does not have never stands
+abbrev pub granted_speed : Option Best → ℕ
+granted_speed None = 0
+granted_speed (Some best) = best.speed
+
+-- no rule has this number: a category that a book does not have never stands
 abbrev pub absent_rule : ℕ
 absent_rule = 255
 
--- of each category the first rule broken and the speed, and the category granted
+abbrev pub absent : Offer
+absent = offer 0 0 absent_rule
+
+-- a book has at most six categories
+abbrev pub six_of : List Offer → List Offer
+six_of offers = take 6 (offers ++ replicate 6 absent)
+
+-- what each category offers, and the category granted
 unfoldable pub decision_of : RuleBook → Facts → Order → Decision
-decision_of b f o =
-    record {
-      broken = six_of absent_rule (map (λ c. broken_by b c f o) b.rows);
-      speeds = six_of 0 (map (λ c. speed_of c f o) b.rows);
-      granted = (granted_of b f o).number;
-      speed = (granted_of b f o).speed;
-    }
+decision_of b f o = record { offers = six_of (offers_of b f o); granted = granted_of b f o }
 
--- the offers of categories numbered from n on, by the first rules that they break and by their speeds
-abbrev pub offers_from : ℕ → List ℕ → List ℕ → List Offer
-offers_from n [] speeds = []
-offers_from n (b ∷ broken) [] = []
-offers_from n (b ∷ broken) (s ∷ speeds) = offer n s b ∷ offers_from (suc n) broken speeds
-
--- what is decided by them
-abbrev pub decided_by : ℕ → List ℕ → List ℕ → Decision
-decided_by asked broken speeds =
-    record {
-      broken = broken;
-      speeds = speeds;
-      granted = (best_of asked (offers_from 1 broken speeds)).number;
-      speed = (best_of asked (offers_from 1 broken speeds)).speed;
-    }
+-- what is decided by offers
+abbrev pub decided_by : ℕ → List Offer → Decision
+decided_by asked offers = record { offers = offers; granted = best_of asked offers }
 
 -- a category that may be granted: the asked or a greater one, that breaks no rule
 pub record MayBeGranted (b : RuleBook) (f : Facts) (o : Order) (c : Category) : Type 0 where
@@ -99,15 +98,15 @@ abbrev pub Rising : ℕ → List Offer → Type 0
 Rising m [] = Unit
 Rising m (x ∷ rest) = (m < x.number) × Rising x.number rest
 
-pub record Granted (asked : ℕ) (offers : List Offer) (g : Best) : Type 0 where
+pub record Granted (asked : ℕ) (offers : List Offer) (g : Option Best) : Type 0 where
   -- 0 is granted, at speed 0, only where none stands
-  pub none : g.number ≡ 0 → (n s : ℕ) → Stands asked offers n s → ⊥
-  pub no_speed : g.number ≡ 0 → g.speed ≡ 0
+  pub none : granted_number g ≡ 0 → (n s : ℕ) → Stands asked offers n s → ⊥
+  pub no_speed : granted_number g ≡ 0 → granted_speed g ≡ 0
   -- any other number is that of one that stands
-  pub one : 0 < g.number → Stands asked offers g.number g.speed
+  pub one : 0 < granted_number g → Stands asked offers (granted_number g) (granted_speed g)
   -- none that stands is faster, and none as fast has a lower number
-  pub fastest : (n s : ℕ) → Stands asked offers n s → s ≤ g.speed
-  pub lowest : (n s : ℕ) → Stands asked offers n s → s ≡ g.speed → g.number ≤ n
+  pub fastest : (n s : ℕ) → Stands asked offers n s → s ≤ granted_speed g
+  pub lowest : (n s : ℕ) → Stands asked offers n s → s ≡ granted_speed g → granted_number g ≤ n
 
 -- categories are offered under their own numbers
 abbrev pub KeepsNumber : (Category → Offer) → Type 0

@@ -1,7 +1,7 @@
 // What a train breaks in each category, and the category granted.
 ghost use Rattle.std.specs.Prelude.{◌≡◌};
 ghost use Rattle.rules.specs.Families.{family_of, family_first};
-ghost use Rattle.rules.specs.Grants.{offer, offer_of, better_of, best_of, offers_from, decided_by, decision_of};
+ghost use Rattle.rules.specs.Grants.{offer_of, better_of, best_of, decided_by, decision_of};
 ghost use Rattle.rules.specs.CrossBorder.{cross_border};
 
 use crate::rule::{Family, broken_by, family_of, number_at};
@@ -9,28 +9,36 @@ use categories::category::{Category, Weigh};
 use facts::Facts;
 use order::Order;
 
-// A category as it is offered: its speed, and the first rule it breaks, or 0.
+// A category as it is offered.
 #[derive(Clone, Copy)]
 pub struct Offer {
     pub number: u8,
     pub speed: u8,
+    // the first rule it breaks, or 0: a number, since it is the sheet's byte, and `broken_by` and the theorems on it speak of 0
     pub broken: u8,
 }
 
-// The number granted and its speed, or 0 and 0.
+impl Offer {
+    // A category that a book does not have breaks a rule of a number that no rule has, so that it never stands.
+    pub const ABSENT: Offer = Offer {
+        number: 0,
+        speed: 0,
+        broken: 255,
+    };
+}
+
+// The number granted and its speed.
 #[derive(Clone, Copy)]
 pub struct Best {
     pub number: u8,
     pub speed: u8,
 }
 
-// What is decided of a train: of each category the first rule broken and the speed, and the category granted; six places, for the book that has most.
+// What is decided of a train: what each category offers, and the category granted; six places, for the book that has most.
 #[derive(Clone, Copy)]
 pub struct Decision {
-    pub broken: [u8; 6],
-    pub speeds: [u8; 6],
-    pub granted: u8,
-    pub speed: u8,
+    pub offers: [Offer; 6],
+    pub granted: Option<Best>,
 }
 
 fn offered(m: Family, first: u8, c: Category, f: Facts, o: Order) -> Offer
@@ -47,49 +55,38 @@ fn offered(m: Family, first: u8, c: Category, f: Facts, o: Order) -> Offer
 }
 
 // An offer that stands goes before the best of those behind it unless that one is faster.
-fn better(asked: u8, number: u8, speed: u8, broken: u8, rest: Best) -> Best
-    ensures { result ≡ better_of asked (offer number speed broken) rest }
+fn better(asked: u8, x: Offer, rest: Option<Best>) -> Option<Best>
+    ensures { result ≡ better_of asked x rest }
 {
-    let stands = (asked <= number) & (broken == 0);
-    if stands & (rest.speed <= speed) {
-        Best {
-            number: number,
-            speed: speed,
-        }
+    let stands = (asked <= x.number) & (x.broken == 0);
+    if stands & rest.is_none_or(|best| best.speed <= x.speed) {
+        Some(Best {
+            number: x.number,
+            speed: x.speed,
+        })
     } else {
         rest
     }
 }
 
-// The first rule broken by a category that a book does not have: the number of no rule, so that it never stands.
-pub const ABSENT: u8 = 255;
-
-// The category granted, of the first rules that categories 1 to 6 break and of their speeds.
-pub fn choose(asked: u8, broken: [u8; 6], speeds: [u8; 6]) -> Best
-    ensures { result ≡ best_of asked (offers_from 1 broken speeds) }
+// The category granted of those offered, in the order of their numbers.
+pub fn choose(asked: u8, offers: &[Offer]) -> Option<Best>
+    ensures { result ≡ best_of asked offers.now }
 {
-    let none = Best {
-        number: 0,
-        speed: 0,
-    };
-    let from6 = better(asked, 6, speeds[5], broken[5], none);
-    let from5 = better(asked, 5, speeds[4], broken[4], from6);
-    let from4 = better(asked, 4, speeds[3], broken[3], from5);
-    let from3 = better(asked, 3, speeds[2], broken[2], from4);
-    let from2 = better(asked, 2, speeds[1], broken[1], from3);
-    better(asked, 1, speeds[0], broken[0], from2)
+    offers
+        .iter()
+        .rev()
+        .copied()
+        .fold(None, |rest, x| better(asked, x, rest))
 }
 
 // What is decided by them.
-pub fn decided(asked: u8, broken: [u8; 6], speeds: [u8; 6]) -> Decision
-    ensures { result ≡ decided_by asked broken speeds }
+pub fn decided(asked: u8, offers: [Offer; 6]) -> Decision
+    ensures { result ≡ decided_by asked offers }
 {
-    let best = choose(asked, broken, speeds);
     Decision {
-        broken: broken,
-        speeds: speeds,
-        granted: best.number,
-        speed: best.speed,
+        offers: offers,
+        granted: choose(asked, &offers),
     }
 }
 
@@ -106,11 +103,5 @@ pub fn decide_cross_border(f: Facts, o: Order) -> Decision
     let x3 = offered(p, first_p, Category::MA100_P100, f, o);
     let x4 = offered(g, first_g, Category::MA100_G100, f, o);
     let x5 = offered(g, first_g, Category::MA90_G90, f, o);
-    decided(
-        o.asked,
-        [
-            x1.broken, x2.broken, x3.broken, x4.broken, x5.broken, ABSENT,
-        ],
-        [x1.speed, x2.speed, x3.speed, x4.speed, x5.speed, 0],
-    )
+    decided(o.asked, [x1, x2, x3, x4, x5, Offer::ABSENT])
 }

@@ -1,14 +1,13 @@
--- `rules::grant::choose` meets its contract: the lists are what stands at their six places. Assumes nothing.
-use Prim.Native.Nat.{ℕ}
-use mathlib.Core.List.{List}
-use mathlib.Core.Path.{sym, ap₂}
-use Rattle.rules.specs.Grants.{best_of, offers_from}
-use Rattle.lists.proofs.Lists.{spell}
-use borrow.Author.Rules.{rules}
+-- `rules::grant::choose` meets its contract: a fold from the last offer to the first. Assumes nothing.
+use Rattle.std.specs.Prelude.{None, reverse}
+use Rattle.std.specs.List.{fold}
+use Rattle.std.proofs.Common.{rules, ◌≡◌, ◌∙◌}
+use Rattle.rules.specs.Grants.{better_of}
+use Rattle.rules.proofs.Grants.{best_from_last}
 use Rattle.rules.proofs.grant.choose.Goals as goal
 
 pub returns : goal.returns
 returns c =
     let a = c.args in
-    rw (c.better.ensures, c.better-from2.ensures, c.better-from3.ensures, c.better-from4.ensures, c.better-from5.ensures, c.better-from6.ensures)
-    (sym (ap₂ (λ (broken speeds : List ℕ). best_of a.asked (offers_from 1 broken speeds)) (spell 6 a.broken (search rules)) (spell 6 a.speeds (search rules))))
+    let folded : c.fold.result ≡ fold (λ rest x. better_of a.asked x rest) None (reverse a.offers.now) = search rules in
+    folded ∙ best_from_last a.asked a.offers.now

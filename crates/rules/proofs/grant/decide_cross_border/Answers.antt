@@ -6,7 +6,8 @@ use mathlib.Core.List.{[], ◌∷◌}
 use Rattle.categories.specs.declared.category.Weigh.TheVariants.{ThreeQuarters, Whole}
 use Rattle.rules.specs.Families.{still_of, family_first}
 use Rattle.rules.specs.CrossBorder.{cross_border}
-use Rattle.rules.specs.Grants.{offer, offer_of, better_of, best_of, granted_of, absent_rule, decision_of}
+use Rattle.rules.specs.Grants.{offer_of, better_of, best_of, granted_of, absent, decision_of}
+use Rattle.std.specs.Prelude.{Option}
 use Rattle.rules.specs.declared.grant.Offer.{Offer}
 use Rattle.rules.specs.declared.grant.Best.{Best}
 use Rattle.rules.specs.declared.grant.Decision.{Decision}
@@ -16,14 +17,11 @@ use Rattle.rules.proofs.grant.decide_cross_border.Goals as goal
 use Rattle.rules.proofs.grant.decide_cross_border.Goals.{After-number_at-first_g}
 
 -- what is decided of five offers, where this is the best behind the fifth
-abbrev with_last : ℕ → Offer → Offer → Offer → Offer → Offer → Best → Decision
+abbrev with_last : ℕ → Offer → Offer → Offer → Offer → Offer → Option Best → Decision
 with_last asked x1 x2 x3 x4 x5 last =
-    let best = better_of asked (offer 1 x1.speed x1.broken) (better_of asked (offer 2 x2.speed x2.broken) (better_of asked (offer 3 x3.speed x3.broken) (better_of asked (offer 4 x4.speed x4.broken) (better_of asked (offer 5 x5.speed x5.broken) last)))) in
     record {
-      broken = x1.broken ∷ x2.broken ∷ x3.broken ∷ x4.broken ∷ x5.broken ∷ absent_rule ∷ [];
-      speeds = x1.speed ∷ x2.speed ∷ x3.speed ∷ x4.speed ∷ x5.speed ∷ 0 ∷ [];
-      granted = best.number;
-      speed = best.speed;
+      offers = x1 ∷ x2 ∷ x3 ∷ x4 ∷ x5 ∷ absent ∷ [];
+      granted = better_of asked x1 (better_of asked x2 (better_of asked x3 (better_of asked x4 (better_of asked x5 last))));
     }
 
 first_p : (e : After-number_at-first_g) → e.number_at-first_p.result ≡ family_first false e.args.f e.args.o
@@ -60,5 +58,5 @@ returns c =
     let x4 = c.offered-x4 in
     let x5 = c.offered-x5 in
     ◌∙◌ {c = decision_of cross_border c.args.f c.args.o}
-    (c.decided.ensures ∙ ap (with_last c.args.o.asked x1.result x2.result x3.result x4.result x5.result) (absent_passed c.args.o.asked 6 0 (best_of c.args.o.asked [])))
+    (c.decided.ensures ∙ ap (with_last c.args.o.asked x1.result x2.result x3.result x4.result x5.result) (absent_passed c.args.o.asked 0 0 (best_of c.args.o.asked [])))
     (λ i. with_last c.args.o.asked (x1.ensures i) (x2.ensures i) (x3.ensures i) (x4.ensures i) (x5.ensures i) (best_of c.args.o.asked []))
