@@ -1,12 +1,10 @@
 -- Document 01's vehicle record at the ends of its ranges and beside them, and records as bytes with what they say: the definitions held to the page.
-use Rattle.std.specs.Prelude.{ℕ, zero, suc, ◌+◌, ◌/◌, ◌%◌, Bool, true, false, List, [], ◌∷◌, ◌++◌, map, take, drop, replicate}
+use Rattle.std.specs.Prelude.{ℕ, zero, suc, ◌+◌, ◌/◌, ◌%◌, Bool, true, false, Option, Some, None, List, [], ◌∷◌, ◌++◌, map, take, drop, replicate}
 use Rattle.record.specs.Ranges.{in_ranges}
 use Rattle.record.specs.Vehicles.{fields, vehicle, first_bad, is_wagon, is_hauled_engine, is_working, is_isolated, is_m, is_v, is_r, is_joined, has_matrossow, has_d_load}
 use Rattle.record.specs.declared.vehicle.Vehicle.{Vehicle}
-use Rattle.record.specs.declared.vehicle.Reading.{Reading}
-use Rattle.record.specs.declared.vehicle.Reading.TheVariants.{Good}
-use Rattle.record.specs.declared.vehicle.Found.{Found}
-use Rattle.record.specs.declared.vehicle.Found.TheVariants.{At, Nothing}
+use Rattle.record.specs.declared.vehicle.Kind.TheVariants.{Wagon, HauledEngine, WorkingEngine}
+use Rattle.record.specs.declared.vehicle.Setting.TheVariants.{M, V, R}
 
 -- a number in so many bytes, the least first
 abbrev pub in_bytes : ℕ → ℕ → List ℕ
@@ -93,11 +91,11 @@ hauled_engine = 77 ∷ 189 ∷ 204 ∷ 189 ∷ 213 ∷ 0 ∷ 0 ∷ 0 ∷ 196 ∷
 abbrev pub written : List (List ℕ)
 written = engine ∷ wagon ∷ hauled_engine ∷ []
 
-abbrev pub says : List Reading
+abbrev pub says : List (Option Vehicle)
 says =
-    Good (record { number = 218124712173; mass = 901; vmass = 1002; mmass = 803; length = 260; axles = 6; kind = 2; setting = 1; joined = 1; speed = 140; matrossow = 0; dload = 0 })
-    ∷ Good (record { number = 318712345673; mass = 600; vmass = 430; mmass = 500; length = 150; axles = 4; kind = 0; setting = 2; joined = 0; speed = 120; matrossow = 1; dload = 0 })
-    ∷ Good (record { number = 918012345677; mass = 2500; vmass = 0; mmass = 1; length = 1000; axles = 24; kind = 1; setting = 3; joined = 0; speed = 200; matrossow = 0; dload = 1 })
+    Some (record { number = 218124712173; mass = 901; vmass = 1002; mmass = 803; length = 260; axles = 6; kind = WorkingEngine; setting = M; joined = true; speed = 140; matrossow = false; dload = false })
+    ∷ Some (record { number = 318712345673; mass = 600; vmass = 430; mmass = 500; length = 150; axles = 4; kind = Wagon; setting = V; joined = false; speed = 120; matrossow = true; dload = false })
+    ∷ Some (record { number = 918012345677; mass = 2500; vmass = 0; mmass = 1; length = 1000; axles = 24; kind = HauledEngine; setting = R; joined = false; speed = 200; matrossow = false; dload = true })
     ∷ []
 
 -- ---- a file
@@ -109,7 +107,7 @@ abbrev pub filed : List (List ℕ)
 filed = with_number lowest 8 2 600 ∷ with_number lowest 8 2 700 ∷ []
 
 -- 3: the first record out of range, counted from 0; a mass of 0 is
-abbrev pub scans : List Found
+abbrev pub scans : List (Option ℕ)
 scans =
     first_bad []
     ∷ first_bad (lowest ∷ lowest ∷ [])
@@ -117,8 +115,8 @@ scans =
     ∷ first_bad (with_number lowest 8 2 0 ∷ lowest ∷ [])
     ∷ []
 
-abbrev pub found : List Found
-found = Nothing ∷ Nothing ∷ At 1 ∷ At 0 ∷ []
+abbrev pub found : List (Option ℕ)
+found = None ∷ None ∷ Some 1 ∷ Some 0 ∷ []
 
 -- ---- what a byte means
 -- these tests of a vehicle with a number in one byte

@@ -4,13 +4,13 @@ use mathlib.Core.Path.{◌≡◌, refl, sym, ap, subst, ◌∙◌}
 use mathlib.Core.Bool.{Bool, true, false}
 use mathlib.Core.List.{List}
 use native.Mathlib.Omega.{arith}
+use Rattle.std.specs.Prelude.{Some}
 use lib.ListN.{length}
 use Rattle.lists.specs.Words.{all}
 use Rattle.record.specs.Records.{records, record_count}
 use Rattle.closing.specs.Closing.{closes}
 use Rattle.record.specs.Ranges.{value, field_good}
 use Rattle.record.specs.Vehicles.{nth, number_closes, good, first_bad}
-use Rattle.record.specs.declared.vehicle.Found.TheVariants.{At}
 use Rattle.record.proofs.Records.{lent_at, part_record, record_length}
 use Rattle.record.proofs.Tables.{rows_more}
 use Rattle.record.proofs.Vehicles.{row_placed, rows_good, rows_bad, fields_good, number_bad, records_more, bad_first, bad_none}
@@ -19,7 +19,7 @@ use Rattle.record.proofs.vehicle.first_out.Goals as goal
 use Rattle.record.proofs.vehicle.first_out.Goals.{then-n-i, else-n-i+then-loop-f-test+then-not-is_in_range, else-n-i+else-loop-f-test+then-not-closes}
 
 -- a bad one behind good ones is the first
-found : (n i : ℕ) (s : List ℕ) → i < n → all good (records i s) ≡ true → good (lent_at s i) ≡ false → At i ≡ first_bad (records n s)
+found : (n i : ℕ) (s : List ℕ) → i < n → all good (records i s) ≡ true → good (lent_at s i) ≡ false → Some i ≡ first_bad (records n s)
 found n i s h before bad = sym (bad_first n i s h before (subst (λ (x : List ℕ). good x ≡ false) (part_record s i) bad))
 
 -- what the code was told of a record's number
@@ -62,9 +62,9 @@ returns-then-place-n c =
     elim c.if-n-i.branch [
       | then-n-i w ↦ absurd (omega arith)
       | else-n-i+then-loop-f-test+then-not-is_in_range w ↦
-          ap At w.place-is ∙ found _ o.i s (omega arith) o.invariant.1 (rows_bad c.args.table.now c.requires r w.loop-f.f (omega (arith, w.loop-f-test.true, c.requires.0)) (sym w.is_in_range.ensures ∙ w.if-not-is_in_range.true))
+          ap Some w.place-is ∙ found _ o.i s (omega arith) o.invariant.1 (rows_bad c.args.table.now c.requires r w.loop-f.f (omega (arith, w.loop-f-test.true, c.requires.0)) (sym w.is_in_range.ensures ∙ w.if-not-is_in_range.true))
       | else-n-i+else-loop-f-test+then-not-closes w ↦
-          ap At w.place-is ∙ found _ o.i s (omega arith) o.invariant.1 (number_bad r (closing_told r _ _ w.value_of.ensures w.closes.ensures ∙ w.if-not-closes.true))
+          ap Some w.place-is ∙ found _ o.i s (omega arith) o.invariant.1 (number_bad r (closing_told r _ _ w.value_of.ensures w.closes.ensures ∙ w.if-not-closes.true))
     ]
 
 pub returns : goal.returns

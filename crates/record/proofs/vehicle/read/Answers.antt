@@ -1,21 +1,23 @@
 -- `record::vehicle::read` meets its contract: a record is good exactly where the file that it makes alone has no bad one. Assumes nothing.
-use mathlib.Core.Path.{sym, ap, ◌∙◌}
+use mathlib.Core.Path.{sym, ap, ◌∙◌, refl}
 use native.Mathlib.Omega.{arith}
-use Rattle.record.specs.declared.vehicle.Reading.TheVariants.{Good}
 use Rattle.record.proofs.Vehicles.{is_nothing, alone_good, length_bad, reading_bad, reading_good}
 use Rattle.record.proofs.vehicle.read.Goals as goal
 
 pub returns-then-bytes-ne-SIZE : goal.returns-then-bytes-ne-SIZE
 returns-then-bytes-ne-SIZE c = reading_bad _ (length_bad c.args.bytes.now (λ e. omega (arith, c.if-bytes-ne-SIZE.true)))
 
-pub returns-in-Nothing : goal.returns-in-Nothing
-returns-in-Nothing c =
+pub vehicle_of-requires : goal.vehicle_of-requires
+vehicle_of-requires c =
     let bs = c.args.bytes.now in
-    let found = sym c.in-Nothing.is ∙ c.first_bad.ensures in
-    ap Good c.vehicle_of.ensures ∙ reading_good bs (sym (alone_good bs c.if-bytes-ne-SIZE.false) ∙ sym (ap is_nothing found))
+    (sym (alone_good bs c.if-bytes-ne-SIZE.false) ∙ sym (ap is_nothing (sym c.in-None.is ∙ c.first_bad.ensures)), (omega arith, (refl, refl)))
 
-pub returns-in-At : goal.returns-in-At
-returns-in-At c =
+pub returns-in-None : goal.returns-in-None
+returns-in-None c =
     let bs = c.args.bytes.now in
-    let found = sym c.in-At.is ∙ c.first_bad.ensures in
-    reading_bad bs (sym (alone_good bs c.if-bytes-ne-SIZE.false) ∙ sym (ap is_nothing found))
+    c.vehicle_of.ensures ∙ reading_good bs (sym (alone_good bs c.if-bytes-ne-SIZE.false) ∙ sym (ap is_nothing (sym c.in-None.is ∙ c.first_bad.ensures)))
+
+pub returns-in-Some : goal.returns-in-Some
+returns-in-Some c =
+    let bs = c.args.bytes.now in
+    reading_bad bs (sym (alone_good bs c.if-bytes-ne-SIZE.false) ∙ sym (ap is_nothing (sym c.in-Some.is ∙ c.first_bad.ensures)))

@@ -1,21 +1,39 @@
--- `record::vehicle::vehicle_of` meets its contract, field by field. Assumes nothing.
-use Rattle.record.specs.Vehicles.{vehicle}
+-- `record::vehicle::vehicle_of` meets its contract, field by field; a good record's kind and setting are read. Assumes nothing.
+use mathlib.Core.Path.{◌≡◌, sym, ap, ◌∙◌}
+use Rattle.std.specs.Prelude.{Some}
+use Rattle.std.proofs.lemmas.Option.{none-some, same_Some}
+use Rattle.record.specs.Ranges.{value}
+use Rattle.record.specs.Vehicles.{nth, kind_of, setting_of, vehicle}
+use Rattle.record.proofs.Vehicles.{kind_read, setting_read}
 use Rattle.record.proofs.vehicle.vehicle_of.Goals as goal
+
+pub returns-in_err-ok : goal.returns-in_err-ok
+returns-in_err-ok c =
+    absurd (none-some _ (sym c.in_err-ok.was ∙ c.ok.ensures.value ∙ kind_read c.args.bytes.now c.requires.0 c.try_from.result c.try_from.ensures))
+
+pub returns-in_err-ok-2 : goal.returns-in_err-ok-2
+returns-in_err-ok-2 c =
+    absurd (none-some _ (sym c.in_err-ok-2.was ∙ c.ok-2.ensures.value ∙ setting_read c.args.bytes.now c.requires.0 c.try_from-2.result c.try_from-2.ensures))
 
 pub returns : goal.returns
 unfolding vehicle
 returns c =
-    simp (
+    let bs = c.args.bytes.now in
+    let kind : c.in_ok-ok.field-0 ≡ kind_of (value bs (nth 6)) =
+    same_Some _ _ (sym c.in_ok-ok.was ∙ c.ok.ensures.value ∙ kind_read bs c.requires.0 c.try_from.result c.try_from.ensures) in
+    let setting : c.in_ok-ok-2.field-0 ≡ setting_of (value bs (nth 7)) =
+    same_Some _ _ (sym c.in_ok-ok-2.was ∙ c.ok-2.ensures.value ∙ setting_read bs c.requires.0 c.try_from-2.result c.try_from-2.ensures) in
+    ap Some (simp (
+      kind,
+      setting,
       c.value_of.ensures,
+      c.value_of-2.ensures,
+      c.value_of-3.ensures,
+      c.value_of-4.ensures,
       c.small_of.ensures,
       c.small_of-2.ensures,
       c.small_of-3.ensures,
       c.small_of-4.ensures,
       c.small_of-5.ensures,
       c.small_of-6.ensures,
-      c.small_of-7.ensures,
-      c.small_of-8.ensures,
-      c.small_of-9.ensures,
-      c.small_of-10.ensures,
-      c.small_of-11.ensures,
-    )
+    ))
