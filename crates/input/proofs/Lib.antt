@@ -1,4 +1,2 @@
-pub mod Wholes
 pub mod Demands
-pub mod Inputs
 pub mod Unique

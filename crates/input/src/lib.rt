@@ -1,11 +1,12 @@
 // Standard input read until it ends or a buffer is full: a read that fails is not an end.
 #![tactic(auto)]
 
-ghost use Rattle.std.specs.Prelude.{◌≡◌, ◌-◌, ◌^◌, ◌<◌, ◌≤◌, length, pos, negsuc, IfOk, MatchResult};
-ghost use Rattle.input.specs.Inputs.{Moved, input_after, Held};
+ghost use Rattle.std.specs.Prelude.{◌≡◌, ◌-◌, ◌≤◌, length, IfOk};
+ghost use Rattle.input.specs.Inputs.{told, input_after, Held, Stands};
 
 use std::io;
 use std::io::{IsTerminal, Read, Stdin};
+use std::ops::ControlFlow;
 
 // Linux's number of a call that a signal interrupted.
 const EINTR: i32 = 4;
@@ -13,99 +14,85 @@ const EINTR: i32 = 4;
 // And of one on a line that was hung up; std says no number of that.
 const EIO: i32 = 5;
 
-// Where bytes come from, and the number of the last error there.
-#[derive(Drop)]
-pub struct Source {
-    pub stdin: Stdin,
-    pub errno: i32,
-}
-
-// So many bytes at the start of the buffer, and more may come; so many, and no more come or fit; or a part that counts for nothing.
-#[derive(Clone, Copy)]
-pub enum Input {
-    Open(usize),
-    Whole(usize),
-    Failed,
-}
-
 // What stands read after one more call of read: one that a signal interrupted is made again, any other that failed fails the whole.
-fn after(done: usize, room: usize, got: isize, error: i32, lost: bool) -> Input
-    requires { (done ≤ room) × Moved (room - done) got }
-    ensures { result ≡ input_after done room got error lost }
-{
-    if got < 0 {
-        if error == EINTR {
-            return Input::Open(done);
-        }
-        return Input::Failed;
-    }
-    if got > 0 {
-        let more = done + got as usize;
-        if more == room {
-            return Input::Whole(more);
-        }
-        return Input::Open(more);
-    }
-    if lost {
-        Input::Failed
-    } else {
-        Input::Whole(done)
-    }
-}
-
-// Read's answer as C has it: how many bytes, and -1 of a read that failed.
-fn moved(answer: &io::Result<usize>) -> isize
-    requires { IfOk answer.now (λ n. n < 2 ^ 63) }
-    ensures { MatchResult answer.now (λ n. result ≡ pos n) (λ e. result ≡ negsuc 0) }
+fn after(
+    done: usize,
+    room: usize,
+    answer: Result<usize, i32>,
+    lost: bool,
+) -> Result<ControlFlow<usize, usize>, i32>
+    requires { (done ≤ room) × IfOk answer (λ n. n ≤ room - done) }
+    ensures { result ≡ input_after done room answer lost }
 {
     match answer {
-        Ok(n) => *n as isize,
-        Err(_) => -1,
+        Err(EINTR) => Ok(ControlFlow::Continue(done)),
+        Err(_) | Ok(0) if lost => Err(EIO),
+        Err(error) => Err(error),
+        Ok(0) => Ok(ControlFlow::Break(done)),
+        Ok(more) if done + more == room => Ok(ControlFlow::Break(room)),
+        Ok(more) => Ok(ControlFlow::Continue(done + more)),
     }
 }
 
-// Reads once, with the number of an error kept in the source.
-fn read(source: &mut Source, part: &mut [u8]) -> isize
-    ensures { Moved (length part.old) result }
+// Read's answer, with the number of the error.
+fn told(answer: io::Result<usize>) -> Result<usize, i32>
+    ensures { result ≡ told answer }
 {
-    let answer = source.stdin.read(part);
-    if let Err(error) = &answer {
-        source.errno = error.raw_os_error().unwrap_or(EIO);
-    }
-    moved(&answer)
+    answer.map_err(|error| error.raw_os_error().unwrap_or(EIO))
 }
 
-// A terminal that was hung up is one no more, though a read of it may answer 0 as at an end.
-fn is_lost(source: &mut Source, terminal: bool) -> bool {
-    let is_lost = terminal && !source.stdin.is_terminal();
-    if is_lost {
-        source.errno = EIO;
-    }
-    is_lost
+// Standard input, and whether it was a terminal at first.
+#[derive(Drop)]
+pub struct Source {
+    stdin: Stdin,
+    was_terminal: bool,
 }
 
-// Reads once, behind what is there.
-fn read_on(source: &mut Source, buffer: &mut [u8], done: usize, terminal: bool) -> Input
-    requires { done ≤ length buffer.old }
-    ensures { Held result buffer.new }
-{
-    let room = buffer.len();
-    let got = read(source, &mut buffer[done..]);
-    let error = source.errno;
-    after(done, room, got, error, is_lost(source, terminal))
+impl From<Stdin> for Source {
+    fn from(stdin: Stdin) -> Source {
+        let was_terminal = stdin.is_terminal();
+        Source {
+            stdin,
+            was_terminal,
+        }
+    }
 }
 
-// Reads until standard input ends or the buffer is full; `terminal` says that it was one at first. The turns are more than a run can make.
-pub fn read_whole(source: &mut Source, buffer: &mut [u8], terminal: bool) -> Input
-    ensures { Held result buffer.new }
-{
-    let mut input = Input::Open(0);
-    for _ in 0..usize::MAX {
-        let Input::Open(done) = input else {
-            return input;
-        };
-        let next = read_on(source, buffer, done, terminal);
-        input = next;
+impl Source {
+    // A terminal that was hung up is one no more, though a read of it may answer 0 as at an end.
+    fn is_lost(&self) -> bool {
+        self.was_terminal && !self.stdin.is_terminal()
     }
-    input
+
+    // Reads once, behind what is there.
+    fn read_on(&mut self, buffer: &mut [u8], done: usize) -> Result<ControlFlow<usize, usize>, i32>
+        requires { done ≤ length buffer.old }
+        ensures { Stands result buffer.new }
+    {
+        let room = buffer.len();
+        let answer = told(self.stdin.read(&mut buffer[done..]));
+        after(done, room, answer, self.is_lost())
+    }
+
+    // Reads until standard input ends or the buffer is full.
+    fn read_all(&mut self, buffer: &mut [u8]) -> Result<usize, i32>
+        ensures { Held result buffer.new }
+    {
+        let mut done = 0;
+        // More turns than a run can make.
+        for _ in 0..usize::MAX {
+            match self.read_on(buffer, done)? {
+                ControlFlow::Continue(more) => done = more,
+                ControlFlow::Break(whole) => return Ok(whole),
+            }
+        }
+        Err(EINTR)
+    }
+
+    // Reads until standard input ends or the buffer is full, and says how many bytes.
+    pub fn read_whole(&mut self, buffer: &mut [u8]) -> io::Result<usize>
+        ensures { Held result buffer.new }
+    {
+        self.read_all(buffer).map_err(io::Error::from_raw_os_error)
+    }
 }
