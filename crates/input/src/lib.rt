@@ -4,15 +4,35 @@
 ghost use Rattle.std.specs.Prelude.{◌≡◌, ◌-◌, ◌≤◌, length, IfOk};
 ghost use Rattle.input.specs.Inputs.{told, input_after, Held, Stands};
 
-use std::io;
+use std::error::Error;
+use std::fmt::{Display, Formatter};
 use std::io::{IsTerminal, Read, Stdin};
 use std::ops::ControlFlow;
+use std::{fmt, io};
 
 // Linux's number of a call that a signal interrupted.
 const EINTR: i32 = 4;
 
 // And of one on a line that was hung up; std says no number of that.
 const EIO: i32 = 5;
+
+// Why a program could not answer its input.
+#[derive(Clone, Copy, Debug)]
+pub enum Failure {
+    Unread(io::Error),
+    Unwritten(io::Error),
+}
+
+impl Display for Failure {
+    fn fmt<W: fmt::Write>(&self, f: &mut Formatter<W>) -> fmt::Result {
+        match self {
+            Failure::Unread(error) => write!(f, "standard input could not be read: {error}"),
+            Failure::Unwritten(error) => write!(f, "standard output could not be written: {error}"),
+        }
+    }
+}
+
+impl Error for Failure {}
 
 // What stands read after one more call of read: one that a signal interrupted is made again, any other that failed fails the whole.
 fn after(
@@ -89,10 +109,12 @@ impl Source {
         Err(EINTR)
     }
 
-    // Reads until standard input ends or the buffer is full, and says how many bytes.
-    pub fn read_whole(&mut self, buffer: &mut [u8]) -> io::Result<usize>
+    // Reads until standard input ends or the buffer is full, and says how many bytes that are.
+    pub fn read_whole(&mut self, buffer: &mut [u8]) -> Result<usize, Failure>
         ensures { Held result buffer.new }
     {
-        self.read_all(buffer).map_err(io::Error::from_raw_os_error)
+        self.read_all(buffer)
+            .map_err(io::Error::from_raw_os_error)
+            .map_err(Failure::Unread)
     }
 }

@@ -1,27 +1,20 @@
 // The program SHEET: an order record and vehicles on standard input, one line on standard output.
 #![tactic(auto)]
 
-use input::{Input, Source};
-use std::io;
-use std::io::IsTerminal;
+use input::{Failure, Source};
 
 // A sheet goes out only of a train that was read whole.
-fn main(rt: HostRuntime) {
-    let mut source = Source {
-        stdin: rt.stdin(),
-        errno: 0,
-    };
-    let terminal = source.stdin.is_terminal();
+// route_sheet does the same with a line of another size: one function for both would take an `Fn` at an array `[u8; N]`, which gets no proof.
+fn answer(rt: &HostRuntime) -> Result<(), Failure> {
     let mut space = [0u8; 4848];
-    let read = input::read_whole(&mut source, &mut space, terminal);
-    let Input::Whole(n) = read else {
-        let error = io::Error::from_raw_os_error(source.errno);
-        let _ = eprintln!(rt; "sheet: standard input could not be read: {error}");
-        return;
-    };
+    let read = Source::from(rt.stdin()).read_whole(&mut space)?;
     let mut line = [0u8; 128];
-    let m = bench::line_of(&space[..n], &mut line);
-    if let Err(error) = rt.write_all(&line[..m]) {
-        let _ = eprintln!(rt; "sheet: standard output could not be written: {error}");
+    let length = bench::line_of(&space[..read], &mut line);
+    rt.write_all(&line[..length]).map_err(Failure::Unwritten)
+}
+
+fn main(rt: HostRuntime) {
+    if let Err(failure) = answer(&rt) {
+        let _ = eprintln!(rt; "sheet: {failure}");
     }
 }

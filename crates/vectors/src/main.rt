@@ -1,118 +1,109 @@
 // The program VECTORS: inputs of SHEET and ROUTE, each behind a byte that says whose it is and its length in two, and the line for each.
 #![tactic(auto)]
 
-use input::{Input, Source};
-use lists::number::number;
-use std::io;
-use std::io::IsTerminal;
+use input::{Failure, Source};
+use std::fmt;
+use std::fmt::{Display, Formatter};
 
 // Whose input it is.
-const SHEET: u8 = 0;
-
-const ROUTE: u8 = 1;
-
-// Fills a part of the stream, and says why it can't; the stream may end between two inputs and not inside one.
-fn fill(
-    rt: &impl Eprint,
-    source: &mut Source,
-    part: &mut [u8],
-    inside: bool,
-    terminal: bool,
-) -> bool {
-    let read = input::read_whole(source, part, terminal);
-    let Input::Whole(n) = read else {
-        let error = io::Error::from_raw_os_error(source.errno);
-        let _ = eprintln!(rt; "vectors: standard input could not be read: {error}");
-        return false;
-    };
-    if n < part.len() {
-        if inside | (n > 0) {
-            let _ = eprintln!(rt; "vectors: the last input is cut short");
-        }
-        return false;
-    }
-    true
+#[derive(Clone, Copy)]
+enum Program {
+    Sheet,
+    Route,
 }
 
-fn write_line(rt: &(impl Print + Eprint), line: &[u8]) -> bool {
-    match rt.write_all(line) {
-        Ok(()) => true,
-        Err(error) => {
-            let _ = eprintln!(rt; "vectors: standard output could not be written: {error}");
-            false
+// Why no further input is answered.
+#[derive(Clone, Copy)]
+enum Stop {
+    Failed(Failure),
+    CutShort,
+    NoProgram,
+}
+
+impl From<Failure> for Stop {
+    fn from(failure: Failure) -> Stop {
+        Stop::Failed(failure)
+    }
+}
+
+impl Display for Stop {
+    fn fmt<W: fmt::Write>(&self, f: &mut Formatter<W>) -> fmt::Result {
+        match self {
+            Stop::Failed(failure) => write!(f, "{failure}"),
+            Stop::CutShort => write!(f, "the last input is cut short"),
+            Stop::NoProgram => write!(f, "an input of no program"),
         }
     }
 }
 
-fn answer_sheet(rt: &(impl Print + Eprint), input: &[u8]) -> bool {
-    let mut line = [0u8; 128];
-    let m = bench::line_of(input, &mut line);
-    write_line(rt, &line[..m])
-}
+impl TryFrom<u8> for Program {
+    type Error = Stop;
 
-fn answer_route(rt: &(impl Print + Eprint), input: &[u8]) -> bool {
-    let mut line = [0u8; 256];
-    let m = bench::route_line_of(input, &mut line);
-    write_line(rt, &line[..m])
-}
-
-fn answer(rt: &(impl Print + Eprint), program: u8, input: &[u8]) -> bool {
-    if program == ROUTE {
-        answer_route(rt, input)
-    } else {
-        answer_sheet(rt, input)
+    fn try_from(byte: u8) -> Result<Program, Stop> {
+        match byte {
+            0 => Ok(Program::Sheet),
+            1 => Ok(Program::Route),
+            _ => Err(Stop::NoProgram),
+        }
     }
 }
 
-// Reads the input behind its head and answers it, and whether to go on; one that was not read whole has no line.
-fn answer_one(
-    rt: &(impl Print + Eprint),
+// The next input and whose it is, or `None` at the stream's end, which may stand between two inputs and not inside one.
+// There is room for what two bytes can announce.
+fn read_next<'a>(
     source: &mut Source,
-    program: u8,
-    n: usize,
-    buffer: &mut [u8],
-    terminal: bool,
-) -> bool {
-    // Never so: the buffer holds what two bytes can announce.
-    if buffer.len() < n {
-        return false;
-    }
-    if !fill(rt, source, &mut buffer[..n], true, terminal) {
-        return false;
-    }
-    answer(rt, program, &buffer[..n])
-}
-
-fn answer_next(
-    rt: &(impl Print + Eprint),
-    source: &mut Source,
-    buffer: &mut [u8],
-    terminal: bool,
-) -> bool {
+    space: &'a mut [u8; 65_536],
+) -> Result<Option<(Program, &'a [u8])>, Stop> {
     let mut head = [0u8; 3];
-    if !fill(rt, source, &mut head, false, terminal) {
-        return false;
+    let read = source.read_whole(&mut head)?;
+    if read == 0 {
+        return Ok(None);
     }
-    let program = head[0];
-    if (program != SHEET) & (program != ROUTE) {
-        let _ = eprintln!(rt; "vectors: an input of no program");
-        return false;
+    if read < head.len() {
+        return Err(Stop::CutShort);
     }
-    let n = number(&head[1..3]) as usize;
-    answer_one(rt, source, program, n, buffer, terminal)
+    let [byte, low, high] = head;
+    let program = Program::try_from(byte)?;
+    let input = &mut space[..usize::from(u16::from_le_bytes([low, high]))];
+    let read = source.read_whole(input)?;
+    if read < input.len() {
+        return Err(Stop::CutShort);
+    }
+    Ok(Some((program, input)))
 }
 
-// A count that no run uses up, so that it ends.
-fn main(rt: HostRuntime) {
-    let mut source = Source {
-        stdin: rt.stdin(),
-        errno: 0,
-    };
-    let terminal = source.stdin.is_terminal();
-    let mut buffer = [0u8; 65_536];
-    for _ in 0..usize::MAX {
-        if !answer_next(&rt, &mut source, &mut buffer, terminal) {
-            return;
+// An arm each, as the lines stand in arrays of two sizes: an `Fn` at an array `[u8; N]` gets no proof.
+fn write_line(rt: &impl Print, program: Program, input: &[u8]) -> Result<(), Failure> {
+    match program {
+        Program::Sheet => {
+            let mut line = [0u8; 128];
+            let length = bench::line_of(input, &mut line);
+            rt.write_all(&line[..length])
         }
+        Program::Route => {
+            let mut line = [0u8; 256];
+            let length = bench::route_line_of(input, &mut line);
+            rt.write_all(&line[..length])
+        }
+    }
+    .map_err(Failure::Unwritten)
+}
+
+fn answer(rt: &HostRuntime) -> Result<(), Stop> {
+    let mut source = Source::from(rt.stdin());
+    let mut space = [0u8; 65_536];
+    // A count that no run uses up, so that it ends.
+    for _ in 0..usize::MAX {
+        let Some((program, input)) = read_next(&mut source, &mut space)? else {
+            return Ok(());
+        };
+        write_line(rt, program, input)?;
+    }
+    Ok(())
+}
+
+fn main(rt: HostRuntime) {
+    if let Err(stop) = answer(&rt) {
+        let _ = eprintln!(rt; "vectors: {stop}");
     }
 }
