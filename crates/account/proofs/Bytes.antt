@@ -2,12 +2,14 @@
 use Prim.Native.Nat.{ℕ, ◌%◌, ◌≤◌}
 use native.Mathlib.Omega.{arith}
 use mathlib.Core.Path.{◌≡◌, refl, sym, ap, ap₂, ◌∙◌, subst}
-use mathlib.Core.Bool.{Bool, true, false, not, ◌&&◌, cond}
+use mathlib.Core.Bool.{true, false, ◌&&◌}
 use mathlib.Core.List.{List, [], ◌∷◌, ◌++◌, map}
 use borrow.Author.Tests.{eq-eqb, eqb-true, eqb-false, ltb-false, not-false}
-use lib.Dec.{ltb}
 use lib.ListN.{length, length-append}
-use Rattle.std.specs.Prelude.{Ok, Err, IsOk, is_ok}
+use Rattle.std.specs.Prelude.{Result, Ok, Err, IsOk, is_ok, ⊤}
+use Rattle.std.specs.Result.{result_and}
+use Rattle.lists.specs.Refusals.{answered}
+use Rattle.lists.proofs.Refusals.{none_of}
 use Rattle.lists.specs.Words.{all, Every}
 use Rattle.record.specs.Records.{record_count, records_of, is_whole}
 use Rattle.record.specs.Vehicles.{good, vehicle, vehicles, is_working}
@@ -18,11 +20,10 @@ use Rattle.lists.specs.Figures.{some}
 use Rattle.account.specs.Accounts.{account_of}
 use Rattle.account.specs.Ceilings.{within}
 use Rattle.account.specs.Joining.{joining}
-use Rattle.account.specs.Answers.{Answer}
 use Rattle.account.specs.Portions.{portion_refusals, accounted, join_refusals, joined}
 use Rattle.account.specs.Groupings.{GoodHauled, Portion, GoodPortion, Grouping, portion, pair, uncut, joined_answers, joined_bytes, BetweenRecords, NoneRefused}
+use Rattle.account.specs.declared.Account.{Account}
 use Rattle.account.specs.declared.Refusal.{Refusal}
-use Rattle.account.specs.declared.Refusal.TheVariants.{NotWhole, TooMany, BadField, WorkingEngine, AboveCeiling}
 use Rattle.lists.proofs.Lists.{both, all_append, neither, every_append}
 use Rattle.account.proofs.Ceils.{test_within, figure_at_lem, portion_left, portion_right}
 use Rattle.account.proofs.Joins.{each_hauled, joined_accounts}
@@ -34,10 +35,10 @@ pub record Sound (bs : List ℕ) : Type 0 where
   pub fine : all good (records_of bs) ≡ true
   pub hauled : Portion (vehicles bs)
 
--- a test that refuses did not hold, and the next answer is the answer
-not_refused : (t : Bool) (refusal : Refusal) (next : Answer) → IsOk (cond t (Err refusal) next) → (t ≡ false) × IsOk next
-not_refused true refusal next e = cc
-not_refused false refusal next e = (refl, e)
+-- an answer that is done has no refusal that applies
+done_refuses : (r : Result ⊤ Refusal) (a : Account) → IsOk (result_and r (Ok a)) → IsOk r
+done_refuses (Ok done) a e = refl
+done_refuses (Err refusal) a e = e
 
 pub hauled_each : (rs : List (List ℕ)) → all good rs ≡ true → some is_working (map vehicle rs) ≡ false → Every GoodHauled (map vehicle rs)
 unfolding all
@@ -50,18 +51,15 @@ hauled_each (r ∷ rs) g w =
 pub done_sound : (bs : List ℕ) → IsOk (accounted bs) → Sound bs
 unfolding portion_refusals
 done_sound bs e =
-    let n1 = not_refused (not (is_whole bs)) NotWhole _ e in
-    let n2 = not_refused (ltb 200 (record_count bs)) TooMany _ n1.1 in
-    let n3 = not_refused (not (all good (records_of bs))) (BadField _) _ n2.1 in
-    let n6 = not_refused (some is_working (vehicles bs)) WorkingEngine _ n3.1 in
-    let good = not-false (all good (records_of bs)) n3.0 in
+    let n = none_of (portion_refusals bs) (done_refuses (answered (portion_refusals bs)) (account_of (vehicles bs)) e) in
+    let good = not-false (all good (records_of bs)) n.1.1.0 in
     record {
-      whole = eqb-true (length bs % 24) 0 (not-false (is_whole bs) n1.0);
+      whole = eqb-true (length bs % 24) 0 (not-false (is_whole bs) n.0);
       fine = good;
       hauled =
           record {
-            each = hauled_each (records_of bs) good n6.0;
-            few = omega (arith, length_vehicles (record_count bs) bs, ltb-false 200 (record_count bs) n2.0);
+            each = hauled_each (records_of bs) good n.1.1.1.0;
+            few = omega (arith, length_vehicles (record_count bs) bs, ltb-false 200 (record_count bs) n.1.0);
           };
     }
 
@@ -101,9 +99,8 @@ between (pair left right) c = omega (arith, length-append (uncut left) (uncut ri
 joined_few : (xs ys : List Vehicle) → IsOk (joined (account_of xs) (account_of ys)) → length (xs ++ ys) ≤ 200
 unfolding join_refusals account_of joining
 joined_few xs ys e =
-    let n7 = not_refused (not (within (account_of xs) && within (account_of ys))) AboveCeiling _ e in
-    let n2 = not_refused (not (within (joining (account_of xs) (account_of ys)))) TooMany _ n7.1 in
-    omega (arith, length-append xs ys, figure_at_lem (joining (account_of xs) (account_of ys)) (test_within (joining (account_of xs) (account_of ys)) (not-false (within (joining (account_of xs) (account_of ys))) n2.0)) 0)
+    let n = none_of (join_refusals (account_of xs) (account_of ys)) (done_refuses (answered (join_refusals (account_of xs) (account_of ys))) (joining (account_of xs) (account_of ys)) e) in
+    omega (arith, length-append xs ys, figure_at_lem (joining (account_of xs) (account_of ys)) (test_within (joining (account_of xs) (account_of ys)) (not-false (within (joining (account_of xs) (account_of ys))) n.1.0)) 0)
 
 -- ---- two portions of a sound one
 module _ (a b : List ℕ) (cut : length a % 24 ≡ 0) (s : Sound (a ++ b)) where

@@ -10,20 +10,23 @@ use borrow.Author.Tests.{eqb-true}
 use lib.ListN.{length, get_or}
 use Rattle.std.specs.Prelude.{Ok, Err, IsOk}
 use Rattle.lists.specs.Words.{all, leading, Every, Case, case_at, First}
+use Rattle.lists.specs.Refusals.{answered}
 use Rattle.lists.specs.Figures.{some}
 use Rattle.record.specs.Records.{record_count, records, records_of, is_whole}
 use Rattle.record.specs.Vehicles.{good, vehicle, vehicles, first_bad, found_number, found_place, is_working, is_v}
 use Rattle.record.specs.Mistyped.{Mistyped}
 use Rattle.record.specs.declared.vehicle.Vehicle.{Vehicle}
-use Rattle.lists.proofs.Cases.{first_applies, none_applies, first_or_none}
+use Rattle.lists.proofs.Cases.{first_or_none}
+use Rattle.lists.proofs.Refusals.{first_refuses, none_refuses}
 use Rattle.record.proofs.Demands.{found_number_lem, found_place_lem, mistyped_some, mistyped_place}
 use Rattle.account.specs.Accounts.{account_of, empty, sums}
 use Rattle.account.specs.Ceilings.{◌up_to◌, figures, within, Within}
 use Rattle.account.specs.Joining.{joining}
-use Rattle.account.specs.Answers.{Answer, answer_number, answer_place, answered}
+use Rattle.account.specs.Answers.{Answer, number_of, place_of, answer_number, answer_place}
 use Rattle.account.specs.Portions.{portion_refusals, engine_or_bad, accounted, join_refusals, joined}
 use Rattle.account.specs.Groupings.{Hauled, GoodHauled, Portion, GoodPortion, Grouping, uncut, joined_vehicles, joined_bytes, BetweenRecords, NoneRefused}
 use Rattle.account.specs.declared.Account.{Account}
+use Rattle.account.specs.declared.Refusal.{Refusal}
 use Rattle.account.specs.declared.Refusal.TheVariants.{BadField}
 use Rattle.account.proofs.Ceils as ceils
 use Rattle.account.proofs.Ceils.{test_within, within_test, portion_ceilings}
@@ -37,32 +40,32 @@ use Rattle.account.proofs.Runs.{Ran, ran_joined}
 
 -- ---- answers
 -- the numbers and the places of the refusals, in document 01's order
-pub portion_numbers : (bs : List ℕ) → map (λ (r : Case Answer). answer_number r.gives) (portion_refusals bs) ≡ 1 ∷ 2 ∷ 3 ∷ 6 ∷ []
+pub portion_numbers : (bs : List ℕ) → map (λ (r : Case Refusal). number_of r.gives) (portion_refusals bs) ≡ 1 ∷ 2 ∷ 3 ∷ 6 ∷ []
 unfolding portion_refusals
 portion_numbers bs = refl
 
-pub portion_places : (bs : List ℕ) → map (λ (r : Case Answer). answer_place r.gives) (portion_refusals bs) ≡ 0 ∷ 0 ∷ leading good (records_of bs) ∷ 0 ∷ []
+pub portion_places : (bs : List ℕ) → map (λ (r : Case Refusal). place_of r.gives) (portion_refusals bs) ≡ 0 ∷ 0 ∷ leading good (records_of bs) ∷ 0 ∷ []
 unfolding portion_refusals
 portion_places bs = refl
 
-pub join_numbers : (left right : Account) → map (λ (r : Case Answer). answer_number r.gives) (join_refusals left right) ≡ 7 ∷ 2 ∷ []
+pub join_numbers : (left right : Account) → map (λ (r : Case Refusal). number_of r.gives) (join_refusals left right) ≡ 7 ∷ 2 ∷ []
 unfolding join_refusals
 join_numbers left right = refl
 
-pub join_places : (left right : Account) → map (λ (r : Case Answer). answer_place r.gives) (join_refusals left right) ≡ 0 ∷ 0 ∷ []
+pub join_places : (left right : Account) → map (λ (r : Case Refusal). place_of r.gives) (join_refusals left right) ≡ 0 ∷ 0 ∷ []
 unfolding join_refusals
 join_places left right = refl
 
--- each is given when it applies and no earlier one does, and the account when none applies
-pub answered_in_order : (a : Account) (rs : List (Case Answer)) (f : First (Ok a) rs) → answered rs a ≡ (case_at (Ok a) rs f.place).gives
-answered_in_order a rs f = first_applies (Ok a) rs f.place f.within f.applies f.earlier
+-- each is given when it applies and no earlier one does, and none when none applies; other stands for no case at all
+pub answered_in_order : (other : Refusal) (rs : List (Case Refusal)) (f : First other rs) → answered rs ≡ Err (case_at other rs f.place).gives
+answered_in_order other rs f = first_refuses other rs f.place f.within f.applies f.earlier
 
 -- and there always is one that does so, or none applies
-pub first_or_done : (a : Account) (rs : List (Case Answer)) → First (Ok a) rs ⊎ Every (λ r. r.applies ≡ false) rs
-first_or_done a = first_or_none (Ok a)
+pub first_or_done : (other : Refusal) (rs : List (Case Refusal)) → First other rs ⊎ Every (λ r. r.applies ≡ false) rs
+first_or_done = first_or_none
 
-pub done_when_none_applies : (a : Account) (rs : List (Case Answer)) → Every (λ r. r.applies ≡ false) rs → answered rs a ≡ Ok a
-done_when_none_applies a = none_applies (Ok a)
+pub done_when_none_applies : (rs : List (Case Refusal)) → Every (λ r. r.applies ≡ false) rs → answered rs ≡ Ok tt
+done_when_none_applies = none_refuses
 
 -- refusal 3 has the number and the place of what the scan for it finds
 pub refused_as_found : (bs : List ℕ) → is_whole bs ≡ true → record_count bs ≤ 200 → all good (records_of bs) ≡ false
