@@ -12,7 +12,7 @@ use Rattle.lists.specs.Refusals.{answered}
 use Rattle.lists.proofs.Refusals.{none_of}
 use Rattle.lists.specs.Words.{all, Every}
 use Rattle.record.specs.Records.{record_count, records_of, is_whole}
-use Rattle.record.specs.Vehicles.{good, vehicle, vehicles, is_working}
+use Rattle.record.specs.Vehicles.{kind_number, good, vehicle, vehicles, is_working}
 use Rattle.record.specs.declared.vehicle.Vehicle.{Vehicle}
 use Rattle.record.proofs.Records.{records_append}
 use Rattle.record.proofs.Vehicles.{length_vehicles, vehicles_append}
@@ -46,7 +46,7 @@ hauled_each [] g w = tt
 hauled_each (r ∷ rs) g w =
     let t = both (good r) (all good rs) g in
     let n = neither (is_working (vehicle r)) (some is_working (map vehicle rs)) w in
-    (good_hauled r t.0 (eqb-false (vehicle r).kind 2 n.0), hauled_each rs t.1 n.1)
+    (good_hauled r t.0 (eqb-false (kind_number (vehicle r).kind) 2 n.0), hauled_each rs t.1 n.1)
 
 pub done_sound : (bs : List ℕ) → IsOk (accounted bs) → Sound bs
 unfolding portion_refusals

@@ -9,7 +9,9 @@ use lib.Dec.{leb}
 use lib.ListN.{get_or, length-append, length-reverse}
 use Rattle.lists.specs.Words.{all, Every}
 use Rattle.record.specs.Ranges.{value}
-use Rattle.record.specs.Vehicles.{nth, vehicle, is_wagon, is_hauled_engine, is_isolated, is_m, is_v, has_d_load}
+use Rattle.record.specs.declared.vehicle.Setting.{Setting}
+use Rattle.record.specs.declared.vehicle.Setting.TheVariants.{Isolated, M, V, R}
+use Rattle.record.specs.Vehicles.{nth, vehicle, setting_number, is_wagon, is_hauled_engine, is_isolated, is_m, is_v, has_d_load}
 use Rattle.record.specs.declared.vehicle.Vehicle.{Vehicle}
 use Rattle.record.proofs.Vehicles.{at_most}
 use Rattle.account.specs.Accounts.{account_of}
@@ -81,17 +83,12 @@ pub axles_le : (v : Vehicle) → GoodHauled v → v.axles ≤ 24
 unfolding vehicle
 axles_le = field_le (λ v. v.axles) 5 (omega arith) (λ r. refl)
 
-pub setting_le : (v : Vehicle) → GoodHauled v → v.setting ≤ 3
-unfolding vehicle
-setting_le = field_le (λ v. v.setting) 7 (omega arith) (λ r. refl)
-
-pub joined_le : (v : Vehicle) → GoodHauled v → v.joined ≤ 1
-unfolding vehicle
-joined_le = field_le (λ v. v.joined) 8 (omega arith) (λ r. refl)
-
-pub dload_le : (v : Vehicle) → GoodHauled v → v.dload ≤ 1
-unfolding vehicle
-dload_le = field_le (λ v. v.dload) 11 (omega arith) (λ r. refl)
+-- a setting is one of four
+setting_le : (s : Setting) → setting_number s ≤ 3
+setting_le Isolated = omega arith
+setting_le M = omega arith
+setting_le V = omega arith
+setting_le R = omega arith
 
 -- the M mass of a hauled engine set to M, the V mass of a wagon set to M
 pub engine_le : (v : Vehicle) → GoodHauled v → cond (is_hauled_engine v && is_m v) v.mmass 0 ≤ 2500
@@ -110,7 +107,7 @@ pub portion_ceilings : (hauled : List Vehicle) → Portion hauled → Within (ac
 unfolding account_of
 portion_ceilings xs h =
     let g = h.each in
-    let settings-small = firsts_le 5 4 (λ (v : Vehicle). v.setting) GoodHauled 4 (omega arith) (λ v d. omega (arith, setting_le v d)) xs g in
+    let settings-small = firsts_le 5 4 (λ (v : Vehicle). setting_number v.setting) GoodHauled 4 (omega arith) (λ v d. omega (arith, setting_le v.setting)) xs g in
     h.few
     ⊗ omega (arith, sum_le GoodHauled (λ v. v.mass) 2500 mass_le xs g)
     ⊗ omega (arith, sum_le GoodHauled (λ v. cond (is_v v) v.vmass 0) 2500 (λ v d. cond_le (is_v v) v.vmass 2500 (vmass_le v d)) xs g)

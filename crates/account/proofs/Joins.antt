@@ -8,7 +8,7 @@ use lib.Dec.{ltb, eqb}
 use lib.ListN.{length, length-append}
 use Rattle.std.specs.Prelude.{Ok, Err}
 use Rattle.lists.specs.Words.{Every}
-use Rattle.record.specs.Vehicles.{is_wagon, is_hauled_engine, is_isolated, is_m, is_v, is_r, is_joined, has_matrossow, has_d_load}
+use Rattle.record.specs.Vehicles.{kind_number, setting_number, is_wagon, is_hauled_engine, is_isolated, is_m, is_v, is_r, is_joined, has_matrossow, has_d_load}
 use Rattle.record.specs.declared.vehicle.Vehicle.{Vehicle}
 use Rattle.lists.specs.Figures.{sum, count, some, behind}
 use Rattle.account.specs.Accounts.{account_of, sums}
@@ -34,7 +34,7 @@ behind_account : (xs ys : List Vehicle) → Every Hauled xs
 behind_account xs ys h =
     behind_append is_wagon is_hauled_engine xs ys
     ∙ ap₂ (λ (s t : Bool). behind is_wagon is_hauled_engine xs || behind is_wagon is_hauled_engine ys || (s && t))
-    (some_same is_wagon (λ v. not (is_hauled_engine v)) xs (every_map Hauled (λ v. is_wagon v ≡ not (is_hauled_engine v)) (λ v k. hauled_wagon v.kind k) xs h)
+    (some_same is_wagon (λ v. not (is_hauled_engine v)) xs (every_map Hauled (λ v. is_wagon v ≡ not (is_hauled_engine v)) (λ v k. hauled_wagon (kind_number v.kind) k) xs h)
     ∙ lack_count is_hauled_engine xs)
     (some_count is_hauled_engine ys)
 
@@ -62,7 +62,7 @@ account_append xs ys h =
       rule17 = some_append (λ v. not (is_joined v)) xs ys i;
       rule18 = some_append (λ v. is_wagon v && has_matrossow v && not (is_isolated v)) xs ys i;
       slowest = least_append 200 (λ v. v.speed) xs ys i;
-      first = firsts_append 5 4 (λ v. v.setting) xs ys i;
+      first = firsts_append 5 4 (λ v. setting_number v.setting) xs ys i;
       vlength = sum_append (λ v. cond (is_v v) v.length 0) xs ys i;
       enginemmass = sum_append (λ v. cond (is_hauled_engine v && is_m v) v.mmass 0) xs ys i;
       wagonvmass = sum_append (λ v. cond (is_wagon v && is_m v) v.vmass 0) xs ys i;

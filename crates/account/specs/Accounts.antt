@@ -1,7 +1,7 @@
 -- Document 01, "The account": each figure of hauled records in order, over the records themselves.
 use Rattle.std.specs.Prelude.{ℕ, not, ◌&&◌, cond, List, [], ◌∷◌, length}
 use Rattle.lists.specs.Words.{leading}
-use Rattle.record.specs.Vehicles.{is_wagon, is_hauled_engine, is_isolated, is_m, is_v, is_r, is_joined, has_matrossow, has_d_load}
+use Rattle.record.specs.Vehicles.{setting_number, is_wagon, is_hauled_engine, is_isolated, is_m, is_v, is_r, is_joined, has_matrossow, has_d_load}
 use Rattle.record.specs.declared.vehicle.Vehicle.{Vehicle}
 use Rattle.lists.specs.Figures.{sum, count, some, trailing, longest, behind, least, firsts}
 use Rattle.account.specs.declared.Account.{Account}
@@ -36,7 +36,7 @@ account_of xs =
       -- the empty account has 200
       slowest = least 200 (λ v. v.speed) xs;
       -- the settings of the first five, 4 where there is none
-      first = firsts 5 4 (λ v. v.setting) xs;
+      first = firsts 5 4 (λ v. setting_number v.setting) xs;
       -- length of records set to V (request Three)
       vlength = sum (λ v. cond (is_v v) v.length 0) xs;
       -- M masses of hauled engines set to M; V masses of wagons set to M; a hauled engine is not set to M (request Six)

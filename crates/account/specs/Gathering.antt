@@ -1,15 +1,31 @@
 -- The account as one loop gathers it: sums by setting, the other figures, and the first five. Private functions promise it to each other; no public contract reads it.
-use Rattle.std.specs.Prelude.{ℕ, ◌+◌, ◌<◌, ◌^◌, min, max, ◌≡◌, not, ◌&&◌, ◌||◌, cond, List, [], ◌∷◌, ◌++◌, map, get_or, set}
-use Rattle.lists.specs.Words.{◌is◌, Every}
-use Rattle.record.specs.Vehicles.{is_wagon, is_hauled_engine, is_isolated, is_m, is_joined, has_matrossow, has_d_load}
+use Rattle.std.specs.Prelude.{ℕ, ◌+◌, ◌<◌, ◌^◌, min, max, not, ◌&&◌, ◌||◌, Bool, cond, List, [], ◌∷◌, length, get_or, set}
+use Rattle.record.specs.Vehicles.{setting_number, is_wagon, is_hauled_engine, is_isolated, is_m, is_v, is_r, is_joined, has_matrossow, has_d_load}
 use Rattle.record.specs.declared.vehicle.Vehicle.{Vehicle}
 use Rattle.lists.specs.Figures.{sum, count, some, trailing, longest, least, firsts}
-use Rattle.account.specs.Groupings.{GoodHauled}
-use Rattle.account.specs.declared.gather.Running.{Running}
+use Rattle.account.specs.declared.gather.Sums.{Sums}
+use Rattle.account.specs.declared.gather.Gathered.{Gathered}
 
-unfoldable pub running_of : List Vehicle → Running
-running_of xs =
+-- the sums of the vehicles that have p
+unfoldable pub sums_of : (Vehicle → Bool) → List Vehicle → Sums
+sums_of p xs =
     record {
+      count = count p xs;
+      vmass = sum (λ v. cond (p v) v.vmass 0) xs;
+      mmass = sum (λ v. cond (p v) v.mmass 0) xs;
+      axles = sum (λ v. cond (p v) v.axles 0) xs;
+      length = sum (λ v. cond (p v) v.length 0) xs;
+    }
+
+-- for each setting, in the order of their numbers
+abbrev pub sums_by_setting : List Vehicle → List Sums
+sums_by_setting xs = sums_of is_isolated xs ∷ sums_of is_m xs ∷ sums_of is_v xs ∷ sums_of is_r xs ∷ []
+
+unfoldable pub gathered : List Vehicle → Gathered
+gathered xs =
+    record {
+      by_setting = sums_by_setting xs;
+      count = length xs;
       mass = sum (λ v. v.mass) xs;
       length = sum (λ v. v.length) xs;
       axles = sum (λ v. v.axles) xs;
@@ -20,75 +36,64 @@ running_of xs =
       longest = longest is_isolated xs;
       rule18 = some (λ v. is_wagon v && has_matrossow v && not (is_isolated v)) xs;
       slowest = least 200 (λ v. v.speed) xs;
+      first = firsts 5 4 (λ v. setting_number v.setting) xs;
       enginemmass = sum (λ v. cond (is_hauled_engine v && is_m v) v.mmass 0) xs;
       wagonvmass = sum (λ v. cond (is_wagon v && is_m v) v.vmass 0) xs;
       enginenotm = some (λ v. is_hauled_engine v && not (is_m v)) xs;
     }
 
--- one hauled record more: its marks are 0 or 1
-unfoldable pub with_one : Running → Vehicle → Running
+-- one hauled vehicle more
+unfoldable pub sums_with : Sums → Vehicle → Sums
+sums_with s v =
+    record {
+      count = s.count + 1;
+      vmass = s.vmass + v.vmass;
+      mmass = s.mmass + v.mmass;
+      axles = s.axles + v.axles;
+      length = s.length + v.length;
+    }
+
+abbrev pub sums_at : List Sums → ℕ → Sums
+sums_at rows k = get_or rows k (sums_of is_isolated [])
+
+unfoldable pub with_one : Gathered → Vehicle → Gathered
 with_one a v =
     record {
+      by_setting = set a.by_setting (setting_number v.setting) (sums_with (sums_at a.by_setting (setting_number v.setting)) v);
+      count = a.count + 1;
       mass = a.mass + v.mass;
       length = a.length + v.length;
       axles = a.axles + v.axles;
-      engines = a.engines + v.kind;
-      dloads = a.dloads + v.dload;
-      joined = a.joined + v.joined;
+      engines = a.engines + cond (is_hauled_engine v) 1 0;
+      dloads = a.dloads + cond (has_d_load v) 1 0;
+      joined = a.joined + cond (is_joined v) 1 0;
       trailing = cond (is_isolated v) (a.trailing + 1) 0;
       longest = max a.longest (cond (is_isolated v) (a.trailing + 1) 0);
       rule18 = a.rule18 || (is_wagon v && has_matrossow v && not (is_isolated v));
       slowest = min a.slowest v.speed;
+      first = set a.first a.count (setting_number v.setting);
       enginemmass = a.enginemmass + cond (is_hauled_engine v && is_m v) v.mmass 0;
       wagonvmass = a.wagonvmass + cond (is_wagon v && is_m v) v.vmass 0;
       enginenotm = a.enginenotm || (is_hauled_engine v && not (is_m v));
     }
 
 -- what the additions ask for
-pub record Room (a : Running) (v : Vehicle) : Type 0 where
+pub record SumsRoom (s : Sums) (v : Vehicle) : Type 0 where
+  pub count : s.count + 1 < 2 ^ 32
+  pub vmass : s.vmass + v.vmass < 2 ^ 32
+  pub mmass : s.mmass + v.mmass < 2 ^ 32
+  pub axles : s.axles + v.axles < 2 ^ 32
+  pub length : s.length + v.length < 2 ^ 32
+
+pub record Room (a : Gathered) (v : Vehicle) : Type 0 where
+  pub sums : SumsRoom (sums_at a.by_setting (setting_number v.setting)) v
+  pub count : a.count + 1 < 2 ^ 32
   pub mass : a.mass + v.mass < 2 ^ 32
   pub length : a.length + v.length < 2 ^ 32
   pub axles : a.axles + v.axles < 2 ^ 32
-  pub engines : a.engines + v.kind < 2 ^ 32
-  pub dloads : a.dloads + v.dload < 2 ^ 32
-  pub joined : a.joined + v.joined < 2 ^ 32
+  pub engines : a.engines + 1 < 2 ^ 32
+  pub dloads : a.dloads + 1 < 2 ^ 32
+  pub joined : a.joined + 1 < 2 ^ 32
   pub trailing : a.trailing + 1 < 2 ^ 32
   pub enginemmass : a.enginemmass + cond (is_hauled_engine v && is_m v) v.mmass 0 < 2 ^ 32
   pub wagonvmass : a.wagonvmass + cond (is_wagon v && is_m v) v.vmass 0 < 2 ^ 32
-
--- f of a vehicle with setting k, and else 0
-abbrev pub set_to : ℕ → (Vehicle → ℕ) → Vehicle → ℕ
-set_to k f v = cond (v.setting is k) (f v) 0
-
--- the sum of f for each setting
-abbrev pub by_setting : (Vehicle → ℕ) → List Vehicle → List ℕ
-by_setting f xs = sum (set_to 0 f) xs ∷ sum (set_to 1 f) xs ∷ sum (set_to 2 f) xs ∷ sum (set_to 3 f) xs ∷ []
-
--- what is summed by setting: how many, V masses, M masses, axles, lengths
-abbrev pub summed : List (Vehicle → ℕ)
-summed = (λ v. 1) ∷ (λ v. v.vmass) ∷ (λ v. v.mmass) ∷ (λ v. v.axles) ∷ (λ v. v.length) ∷ []
-
-abbrev pub summed_of : Vehicle → List ℕ
-summed_of v = map (λ f. f v) summed
-
--- the sums of each, one after the other
-abbrev pub table_of : List (Vehicle → ℕ) → List Vehicle → List ℕ
-table_of [] xs = []
-table_of (f ∷ fs) xs = by_setting f xs ++ table_of fs xs
-
--- each figure added to a sum: the first to the one at this place, each next one four places on
-abbrev pub added_from : ℕ → List ℕ → List ℕ → List ℕ
-added_from at [] sums = sums
-added_from at (y ∷ ys) sums = added_from (at + 4) ys (set sums at (get_or sums at 0 + y))
-
--- what these additions ask for
-abbrev pub RoomFrom : ℕ → List ℕ → List ℕ → Type 0
-RoomFrom at [] sums = Unit
-RoomFrom at (y ∷ ys) sums = (get_or sums at 0 + y < 2 ^ 32) × RoomFrom (at + 4) ys (set sums at (get_or sums at 0 + y))
-
--- all that is gathered, of good hauled records
-pub record Gathered (xs : List Vehicle) (a : Running) (sums first : List ℕ) : Type 0 where
-  pub each : Every GoodHauled xs
-  pub running : a ≡ running_of xs
-  pub table : sums ≡ table_of summed xs
-  pub five : first ≡ firsts 5 4 (λ v. v.setting) xs

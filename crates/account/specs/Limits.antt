@@ -1,5 +1,7 @@
 -- Document 01's account held to the page: each figure at its ceiling and one above, accounts of two lists, their marks, joinings of accounts that no list has, and answers.
 use Rattle.std.specs.Prelude.{ℕ, Bool, true, false, List, [], ◌∷◌, ◌++◌, map, get_or, replicate, Err}
+use Rattle.lists.specs.Words.{◌is◌}
+use Rattle.record.specs.Vehicles.{kind_of, setting_of}
 use Rattle.record.specs.Limits.{engine, wagon, hauled_engine}
 use Rattle.record.specs.declared.vehicle.Vehicle.{Vehicle}
 use Rattle.account.specs.Accounts.{account_of}
@@ -100,7 +102,7 @@ expected = replicate 23 (true ∷ false ∷ [])
 -- kind, setting, mass, braked mass in V and in M, length, axles, permitted speed, D load; joined
 abbrev hauled : ℕ → ℕ → ℕ → ℕ → ℕ → ℕ → ℕ → ℕ → ℕ → Vehicle
 hauled kind setting mass v m length axles speed dload =
-    record { number = 18; mass = mass; vmass = v; mmass = m; length = length; axles = axles; kind = kind; setting = setting; joined = 1; speed = speed; matrossow = 0; dload = dload }
+    record { number = 18; mass = mass; vmass = v; mmass = m; length = length; axles = axles; kind = kind_of kind; setting = setting_of setting; joined = true; speed = speed; matrossow = false; dload = dload is 1 }
 
 -- none; an engine set to M before three wagons; nine with a run of three isolated
 abbrev pub lists : List (List Vehicle)
@@ -154,7 +156,7 @@ accounts =
 -- kind, setting, joined, Matrossow brake
 abbrev standing : ℕ → ℕ → ℕ → ℕ → Vehicle
 standing kind setting joined matrossow =
-    record { number = 18; mass = 1; vmass = 0; mmass = 0; length = 1; axles = 1; kind = kind; setting = setting; joined = joined; speed = 1; matrossow = matrossow; dload = 0 }
+    record { number = 18; mass = 1; vmass = 0; mmass = 0; length = 1; axles = 1; kind = kind_of kind; setting = setting_of setting; joined = joined is 1; speed = 1; matrossow = matrossow is 1; dload = false }
 
 -- engine behind a wagon, rules 16, 17, 18, engine not set to M
 abbrev marks_of : List Vehicle → List Bool

@@ -1,18 +1,61 @@
-// The figures of the records so far, as the loop over a portion gathers them.
-ghost use Rattle.std.specs.Prelude.{◌≡◌, cond, [], ◌+◌, ◌<◌, ◌≤◌, ◌^◌, length, get_or, set};
+// What the loop over a portion gathers of the records so far.
+ghost use Rattle.std.specs.Prelude.{◌≡◌, [], ◌≤◌, length, set};
 ghost use Rattle.record.specs.Records.{record_count};
 ghost use Rattle.record.specs.Vehicles.{vehicles};
 ghost use Rattle.account.specs.Accounts.{account_of};
-ghost use Rattle.account.specs.Gathering.{Room, RoomFrom, Gathered, running_of, with_one, summed_of, added_from};
+ghost use Rattle.lists.specs.Words.{Every};
+ghost use Rattle.account.specs.Groupings.{GoodHauled};
+ghost use Rattle.account.specs.Gathering.{SumsRoom, Room, sums_with, gathered, with_one};
 
 use crate::Account;
-use crate::joining::{greater, sum};
-use lists::number::lesser;
-use record::vehicle::{SIZE, Vehicle, leading_engines, leading_isolated};
+use record::vehicle::{Kind, Setting, Vehicle, leading_engines, leading_isolated};
 
-// The figures that are not sums by setting alone, and how many records are joined.
+// The sums of the records that are set alike.
 #[derive(Clone, Copy)]
-pub(crate) struct Running {
+pub(crate) struct Sums {
+    pub(crate) count: u32,
+    pub(crate) vmass: u32,
+    pub(crate) mmass: u32,
+    pub(crate) axles: u32,
+    pub(crate) length: u32,
+}
+
+// Sets the setting at place `i`, where it is one of the first five.
+fn set_at(first: &mut [u32; 5], i: usize, setting: u32)
+    requires { length first.old ≡ 5 }
+    ensures { first.new ≡ set first.old i setting }
+{
+    if i < 5 {
+        first[i] = setting;
+    }
+}
+
+impl Sums {
+    const NONE: Sums = Sums {
+        count: 0,
+        vmass: 0,
+        mmass: 0,
+        axles: 0,
+        length: 0,
+    };
+
+    fn add(&mut self, v: Vehicle)
+        requires { SumsRoom self.old v }
+        ensures { self.new ≡ sums_with self.old v }
+    {
+        self.count += 1;
+        self.vmass += v.vmass;
+        self.mmass += v.mmass;
+        self.axles += v.axles;
+        self.length += v.length;
+    }
+}
+
+#[derive(Clone, Copy)]
+pub(crate) struct Gathered {
+    // isolated, M, V, R
+    pub(crate) by_setting: [Sums; 4],
+    pub(crate) count: u32,
     pub(crate) mass: u32,
     pub(crate) length: u32,
     pub(crate) axles: u32,
@@ -23,146 +66,102 @@ pub(crate) struct Running {
     pub(crate) longest: u32,
     pub(crate) rule18: bool,
     pub(crate) slowest: u32,
+    // the settings of the first five, 4 where there is none
+    pub(crate) first: [u32; 5],
     pub(crate) enginemmass: u32,
     pub(crate) wagonvmass: u32,
     pub(crate) enginenotm: bool,
 }
 
-pub(crate) fn none_yet() -> Running
-    ensures { result ≡ running_of [] }
-{
-    Running {
-        mass: 0,
-        length: 0,
-        axles: 0,
-        engines: 0,
-        dloads: 0,
-        joined: 0,
-        trailing: 0,
-        longest: 0,
-        rule18: false,
-        slowest: 200,
-        enginemmass: 0,
-        wagonvmass: 0,
-        enginenotm: false,
+impl Gathered {
+    pub(crate) fn new() -> Gathered
+        ensures { result ≡ gathered [] }
+    {
+        Gathered {
+            by_setting: [Sums::NONE; 4],
+            count: 0,
+            mass: 0,
+            length: 0,
+            axles: 0,
+            engines: 0,
+            dloads: 0,
+            joined: 0,
+            trailing: 0,
+            longest: 0,
+            rule18: false,
+            slowest: 200,
+            first: [4; 5],
+            enginemmass: 0,
+            wagonvmass: 0,
+            enginenotm: false,
+        }
     }
-}
 
-// A run of isolated that ends here.
-fn run_to(isolated: bool, run: u32) -> u32
-    requires { run + 1 < 2 ^ 32 }
-    ensures { result ≡ cond isolated (run + 1) 0 }
-{
-    if isolated { run + 1 } else { 0 }
-}
-
-// A figure where the mark holds.
-fn only(holds: bool, x: u32) -> u32
-    ensures { result ≡ cond holds x 0 }
-{
-    if holds { x } else { 0 }
-}
-
-// One record more. Marks of 0 and 1 add as they are.
-pub(crate) fn with_one(so_far: Running, v: Vehicle) -> Running
-    requires { Room so_far v }
-    ensures { result ≡ with_one so_far v }
-{
-    let isolated = v.setting == 0;
-    let set_to_m = v.setting == 1;
-    let wagon = v.kind == 0;
-    let engine = v.kind == 1;
-    let trailing = run_to(isolated, so_far.trailing);
-    Running {
-        mass: sum(so_far.mass, v.mass),
-        length: sum(so_far.length, v.length),
-        axles: sum(so_far.axles, v.axles),
-        engines: sum(so_far.engines, v.kind),
-        dloads: sum(so_far.dloads, v.dload),
-        joined: sum(so_far.joined, v.joined),
-        trailing: trailing,
-        longest: greater(so_far.longest, trailing),
-        rule18: so_far.rule18 | (wagon & (v.matrossow == 1) & !isolated),
-        slowest: lesser(so_far.slowest, v.speed),
-        enginemmass: sum(so_far.enginemmass, only(engine & set_to_m, v.mmass)),
-        wagonvmass: sum(so_far.wagonvmass, only(wagon & set_to_m, v.vmass)),
-        enginenotm: so_far.enginenotm | (engine & !set_to_m),
+    // One record more.
+    pub(crate) fn add(&mut self, v: Vehicle)
+        requires { Room self.old v }
+        ensures { self.new ≡ with_one self.old v }
+    {
+        let isolated = v.setting == Setting::Isolated;
+        let set_to_m = v.setting == Setting::M;
+        let wagon = v.kind == Kind::Wagon;
+        let engine = v.kind == Kind::HauledEngine;
+        let trailing = if isolated { self.trailing + 1 } else { 0 };
+        let enginemmass = if engine & set_to_m { v.mmass } else { 0 };
+        let wagonvmass = if wagon & set_to_m { v.vmass } else { 0 };
+        self.by_setting[v.setting as usize].add(v);
+        set_at(&mut self.first, self.count as usize, v.setting as u32);
+        self.count += 1;
+        self.mass += v.mass;
+        self.length += v.length;
+        self.axles += v.axles;
+        self.engines += u32::from(engine);
+        self.dloads += u32::from(v.dload);
+        self.joined += u32::from(v.joined);
+        self.trailing = trailing;
+        self.longest = self.longest.max(trailing);
+        self.rule18 |= wagon & v.matrossow & !isolated;
+        self.slowest = self.slowest.min(v.speed);
+        self.enginemmass += enginemmass;
+        self.wagonvmass += wagonvmass;
+        self.enginenotm |= engine & !set_to_m;
     }
-}
 
-// How many sums by setting there are: five figures, four settings each.
-pub(crate) const SUMS: usize = 20;
-
-// Adds to one of the sums.
-fn add_at(sums: &mut [u32; SUMS], at: u32, x: u32)
-    requires { (at < 20) × (get_or sums.old at 0 + x < 2 ^ 32) }
-    ensures { sums.new ≡ set sums.old at (get_or sums.old at 0 + x) }
-{
-    sums[at as usize] += x;
-}
-
-// Adds a record to the sums of its setting, every fourth: an index in place of four tests.
-pub(crate) fn add_by_setting(sums: &mut [u32; SUMS], v: Vehicle)
-    requires { (v.setting < 4) × RoomFrom v.setting (summed_of v) sums.old }
-    ensures { sums.new ≡ added_from v.setting (summed_of v) sums.old }
-{
-    let at = v.setting;
-    add_at(sums, at, 1);
-    add_at(sums, at + 4, v.vmass);
-    add_at(sums, at + 8, v.mmass);
-    add_at(sums, at + 12, v.axles);
-    add_at(sums, at + 16, v.length);
-}
-
-// Sets the setting at place `i`, where it is one of the first five.
-pub(crate) fn set_at(first: &mut [u32; 5], i: usize, setting: u32)
-    requires { length first.old ≡ 5 }
-    ensures { first.new ≡ set first.old i setting }
-{
-    if i < 5 {
-        first[i] = setting;
-    }
-}
-
-// The account of a portion, out of what was gathered of it. Sums: count from 0 on, V mass from 4, M mass from 8, axles from 12,
-// length from 16, each of isolated, M, V and R.
-pub(crate) fn account_from(
-    portion: &[u8],
-    running: Running,
-    sums: [u32; SUMS],
-    first: [u32; 5],
-) -> Account
-    requires portion_bound { record_count portion.now ≤ 200 }
-    requires gathered { Gathered (vehicles portion.now) running sums first }
-    ensures { result ≡ account_of (vehicles portion.now) }
-{
-    let count = (portion.len() / SIZE) as u32;
-    let leading = leading_isolated(portion) as u32;
-    let engines_ahead = leading_engines(portion) as u32;
-    Account {
-        count: count,
-        mass: running.mass,
-        vmass: sums[6],
-        mmass: sums[9],
-        length: running.length,
-        axles: running.axles,
-        vaxles: sums[14],
-        engines: running.engines,
-        mset: sums[1],
-        isolated: sums[0],
-        dloads: running.dloads,
-        leading: leading,
-        trailing: running.trailing,
-        longest: running.longest,
-        behind: engines_ahead < running.engines,
-        rule16: 0 < sums[3],
-        rule17: running.joined < count,
-        rule18: running.rule18,
-        slowest: running.slowest,
-        first: first,
-        vlength: sums[18],
-        enginemmass: running.enginemmass,
-        wagonvmass: running.wagonvmass,
-        enginenotm: running.enginenotm,
+    // The account of the portion that this is gathered of. The runs in front are counted apart: with them in the loop it takes a half longer.
+    pub(crate) fn account(self, portion: &[u8]) -> Account
+        requires portion_bound { record_count portion.now ≤ 200 }
+        requires each { Every GoodHauled (vehicles portion.now) }
+        requires gathered { self ≡ gathered (vehicles portion.now) }
+        ensures { result ≡ account_of (vehicles portion.now) }
+    {
+        let [isolated, m, v, r] = self.by_setting;
+        let leading = leading_isolated(portion) as u32;
+        let engines_ahead = leading_engines(portion) as u32;
+        Account {
+            count: self.count,
+            mass: self.mass,
+            vmass: v.vmass,
+            mmass: m.mmass,
+            length: self.length,
+            axles: self.axles,
+            vaxles: v.axles,
+            engines: self.engines,
+            mset: m.count,
+            isolated: isolated.count,
+            dloads: self.dloads,
+            leading,
+            trailing: self.trailing,
+            longest: self.longest,
+            behind: engines_ahead < self.engines,
+            rule16: 0 < r.count,
+            rule17: self.joined < self.count,
+            rule18: self.rule18,
+            slowest: self.slowest,
+            first: self.first,
+            vlength: v.length,
+            enginemmass: self.enginemmass,
+            wagonvmass: self.wagonvmass,
+            enginenotm: self.enginenotm,
+        }
     }
 }

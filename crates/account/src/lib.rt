@@ -6,8 +6,8 @@ ghost use Rattle.record.specs.Records.{records_of};
 ghost use Rattle.account.specs.Ceilings.{within};
 ghost use Rattle.account.specs.Portions.{accounted, engine_or_bad, joined};
 
-use crate::gather::{SUMS, account_from, add_by_setting, set_at, with_one};
-use record::vehicle::{Found, MOST, Reading, SIZE, first_bad, read};
+use crate::gather::Gathered;
+use record::vehicle::{Kind, MOST, SIZE, first_bad, read};
 
 mod figure;
 mod gather;
@@ -73,41 +73,29 @@ pub enum Refusal {
 fn engine_or_bad(portion: &[u8]) -> Refusal
     ensures { result ≡ engine_or_bad (records_of portion.now) }
 {
-    match first_bad(portion) {
-        Found::At(place) => Refusal::BadField(place),
-        Found::Nothing => Refusal::WorkingEngine,
-    }
+    first_bad(portion).map_or(Refusal::WorkingEngine, Refusal::BadField)
 }
 
 // The account of a portion of hauled vehicles.
 pub fn account_of(portion: &[u8]) -> Result<Account, Refusal>
     ensures { result ≡ accounted portion.now }
 {
-    if portion.len() % SIZE != 0 {
+    let (records, rest) = portion.as_chunks::<SIZE>();
+    if !rest.is_empty() {
         return Err(Refusal::NotWhole);
     }
-    let n = portion.len() / SIZE;
-    if MOST < n {
+    if MOST < records.len() {
         return Err(Refusal::TooMany);
     }
-    let mut running = gather::none_yet();
-    let mut sums = [0u32; SUMS];
-    let mut first = [4u32; 5];
-    let mut i = 0;
-    while i < n {
-        let at = SIZE * i;
-        let Reading::Good(vehicle) = read(&portion[at..at + SIZE]) else {
-            return Err(Refusal::BadField(i));
-        };
-        if vehicle.kind == 2 {
+    let mut gathered = Gathered::new();
+    for (i, record) in records.iter().enumerate() {
+        let vehicle = read(record).ok_or(Refusal::BadField(i))?;
+        if vehicle.kind == Kind::WorkingEngine {
             return Err(engine_or_bad(portion));
         }
-        add_by_setting(&mut sums, vehicle);
-        set_at(&mut first, i, vehicle.setting);
-        running = with_one(running, vehicle);
-        i += 1;
+        gathered.add(vehicle);
     }
-    Ok(account_from(portion, running, sums, first))
+    Ok(gathered.account(portion))
 }
 
 // Whether an account has no figure above its ceiling; 7 is for the rest.

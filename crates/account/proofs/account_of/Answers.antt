@@ -1,78 +1,102 @@
 -- `account::account_of` meets its contract: the records before `i` are good and hauled, and what is gathered is theirs. Assumes nothing.
 use native.Mathlib.Omega.{arith}
 use mathlib.Core.Path.{◌≡◌, refl, sym, ap, ◌∙◌}
-use mathlib.Core.Bool.{true}
-use borrow.Author.Tests.{eq-eqb}
-use Rattle.lists.specs.Words.{all}
-use Rattle.record.specs.Records.{record_count, records}
-use Rattle.record.proofs.Records.{record_at}
-use Rattle.record.specs.Vehicles.{vehicle, vehicles, is_working}
-use Rattle.record.specs.declared.vehicle.Vehicle.{Vehicle}
-use Rattle.record.proofs.Vehicles.{part_good, part_bad, records_more, first_place_lem}
-use Rattle.std.specs.Prelude.{Ok, Err}
+use mathlib.Core.Bool.{Bool, true}
+use lib.Dec.{eqb}
+use Prim.Native.Nat.{ℕ}
+use borrow.Author.Tests.{eqb-false, eqb-true}
+use Rattle.std.specs.Prelude.{Option, Ok, Err, ok_or}
 use Rattle.account.specs.declared.Account.{Account}
 use Rattle.account.specs.declared.Refusal.{Refusal}
-use Rattle.account.proofs.Gathers.{Turn, turn, gathered_more}
-use Rattle.account.proofs.Portions.{none_working, working_there, answer_1, answer_2, answer_3, answer_6, answer_0}
+use Rattle.account.specs.declared.Refusal.TheVariants.{BadField}
+use Rattle.lists.specs.Words.{all}
+use Rattle.record.specs.Records.{record_count, records}
+use Rattle.record.specs.Vehicles.{vehicles, is_working}
+use Rattle.record.specs.declared.vehicle.Vehicle.{Vehicle}
+use Rattle.record.proofs.Vehicles.{records_more, first_place_lem, good_reading, bad_reading}
+use Rattle.account.proofs.Gathers.{each_more, gathered_more, room}
+use Rattle.account.proofs.Portions.{read_at, Turn, turn, none_working, working_there, answer_1, answer_2, answer_3, answer_6, answer_0}
+use borrow.Author.Rules.{rules}
+use Rattle.std.proofs.lemmas.Result.{err_from_is_err_and}
 use Rattle.account.proofs.account_of.Goals as goal
-use Rattle.account.proofs.account_of.Goals.{Else-vehicle-eq2}
+use Rattle.account.proofs.account_of.Goals.{Else-eq}
 
--- the record at `i` was read, and is no working engine
-here : (e : Else-vehicle-eq2) → Turn e.args.portion.now e.loop-i.i e.in-Good.vehicle e.loop-i.running e.loop-i.sums e.loop-i.first
-here e =
-    turn e.args.portion.now e.loop-i.i _ (sym e.in-Good.is ∙ e.read.ensures) e.if-vehicle-eq2.false (omega (arith, e.if-n-gt-MOST.false)) _ _ _ e.loop-i.invariant.2
+-- no byte is left behind the records
+whole : {k n : ℕ} {b : Bool} → k ≡ n → b ≡ eqb k 0 → b ≡ true → n ≡ 0
+whole e f t = sym e ∙ eqb-true _ 0 (sym f ∙ t)
 
-pub returns-then-portion-ne0 : goal.returns-then-portion-ne0
-returns-then-portion-ne0 c = answer_1 _ c.if-portion-ne0.true
+pub returns-then-not-is_empty : goal.returns-then-not-is_empty
+returns-then-not-is_empty c = answer_1 _ (λ e. eqb-false _ 0 (sym c.is_empty.ensures ∙ c.if-not-is_empty.true) (c.as_chunks.ensures.back_len ∙ e))
 
-pub returns-then-n-gt-MOST : goal.returns-then-n-gt-MOST
-returns-then-n-gt-MOST c = answer_2 c.args.portion.now c.if-portion-ne0.false (omega (arith, c.if-n-gt-MOST.true))
+pub returns-then-records-gt-MOST : goal.returns-then-records-gt-MOST
+returns-then-records-gt-MOST c =
+    answer_2 _ (whole c.as_chunks.ensures.back_len c.is_empty.ensures c.if-not-is_empty.false) (omega (arith, c.as_chunks.ensures.front_len, c.if-records-gt-MOST.true))
 
 pub loop-i-init : goal.loop-i-init
 unfolding all records
-loop-i-init c =
-    (omega arith, refl, record { each = tt; running = c.none_yet-running.ensures; table = refl; five = refl })
+loop-i-init c = record { fine = refl; each = tt; sums = c.new-gathered.ensures }
 
-pub returns-in_default : goal.returns-in_default
-returns-in_default c =
+pub returns-in_err-vehicle : goal.returns-in_err-vehicle
+returns-in_err-vehicle c =
     let bs = c.args.portion.now in
-    let bad = part_bad bs c.loop-i.i (sym c.in_default.is ∙ c.read.ensures) in
-    answer_3 bs c.if-portion-ne0.false c.if-n-gt-MOST.false c.loop-i.i (first_place_lem _ c.loop-i.i bs c.loop-i-test.true c.loop-i.invariant.1 bad)
+    let i = c.loop-i.i in
+    let none = sym c.in_err-vehicle.ensures.ok_part ∙ read_at bs _ i _ c.as_chunks.ensures.front (omega (arith, c.as_chunks.ensures.front_len)) c.read.ensures in
+    let bad = c.in_err-vehicle.ensures.value ∙ ap (λ (o : Option Vehicle). ok_or o (BadField i)) c.in_err-vehicle.ensures.ok_part in
+    let field : c.in_err-vehicle.field-0.0 ≡ BadField i = cc bad in
+    let p = err_from_is_err_and c.from_residual.result c.from_residual.ensures.1 in
+    p.1
+    ∙ ap (λ (r : Refusal). Err r) (p.2 ∙ field)
+    ∙ answer_3 bs (whole c.as_chunks.ensures.back_len c.is_empty.ensures c.if-not-is_empty.false) (omega (arith, c.as_chunks.ensures.front_len)) i
+    (first_place_lem _ i bs (omega (arith, c.as_chunks.ensures.front_len)) c.loop-i.invariant.fine (bad_reading _ none))
 
-pub returns-then-vehicle-eq2 : goal.returns-then-vehicle-eq2
-returns-then-vehicle-eq2 c =
+pub returns-then-eq : goal.returns-then-eq
+returns-then-eq c =
     let bs = c.args.portion.now in
-    let g = part_good bs c.loop-i.i _ (sym c.in-Good.is ∙ c.read.ensures) in
-    let w : is_working (vehicle (record_at bs c.loop-i.i)) ≡ true = eq-eqb _ 2 (sym (ap (λ (v : Vehicle). v.kind) g.1) ∙ c.if-vehicle-eq2.true) in
+    let i = c.loop-i.i in
+    let w : c.eq.result ≡ is_working c.in_ok-vehicle.vehicle = search rules in
+    let g = good_reading _ _ (sym c.in_ok-vehicle.ensures.ok_part ∙ read_at bs _ i _ c.as_chunks.ensures.front (omega (arith, c.as_chunks.ensures.front_len)) c.read.ensures) in
     ap (λ (r : Refusal). Err r) c.engine_or_bad.ensures
-    ∙ answer_6 bs c.if-portion-ne0.false c.if-n-gt-MOST.false (working_there bs c.loop-i.i c.loop-i-test.true w)
+    ∙ answer_6 bs (whole c.as_chunks.ensures.back_len c.is_empty.ensures c.if-not-is_empty.false) (omega (arith, c.as_chunks.ensures.front_len))
+    (working_there bs i (omega (arith, c.as_chunks.ensures.front_len)) (sym (ap is_working g.1) ∙ sym w ∙ c.if-eq.true))
 
-pub add_by_setting-requires : goal.add_by_setting-requires
-add_by_setting-requires c = (here (goal.at.add_by_setting-requires c).Else-vehicle-eq2).table
+-- the record at `i` was read, and is no working engine
+here : (e : Else-eq) → Turn e.args.portion.now e.loop-i.i e.in_ok-vehicle.vehicle
+here e =
+    let bs = e.args.portion.now in
+    let i = e.loop-i.i in
+    let w : e.eq.result ≡ is_working e.in_ok-vehicle.vehicle = search rules in
+    turn bs i _ (sym e.in_ok-vehicle.ensures.ok_part ∙ read_at bs _ i _ e.as_chunks.ensures.front (omega (arith, e.as_chunks.ensures.front_len)) e.read.ensures) (sym w ∙ e.if-eq.false)
 
-pub set_at-requires : goal.set_at-requires
-set_at-requires c = (here (goal.at.set_at-requires c).Else-vehicle-eq2).five
-
-pub with_one-running-requires : goal.with_one-running-requires
-with_one-running-requires c = (here (goal.at.with_one-running-requires c).Else-vehicle-eq2).room
+pub add-requires : goal.add-requires
+add-requires c =
+    room c.args.portion.now c.loop-i.i c.in_ok-vehicle.vehicle (here (goal.at.add-requires c).Else-eq) c.loop-i.gathered c.loop-i.invariant.each (omega (arith, c.loop-i-test.true)) c.loop-i.invariant.sums
 
 pub loop-i-preserved : goal.loop-i-preserved
 loop-i-preserved c =
     let bs = c.args.portion.now in
-    let t = here (goal.at.loop-i-preserved c).Else-vehicle-eq2 in (
-      omega (arith, c.loop-i-test.true),
-      records_more bs c.loop-i.i c.loop-i.invariant.1 t.fine,
-      gathered_more bs c.loop-i.i _ t.says t.hauled c.loop-i.running _ _ _ _ _ c.loop-i.invariant.2
-          c.add_by_setting.ensures
-          c.set_at.ensures
-          c.with_one-running.ensures,
-    )
+    let i = c.loop-i.i in
+    let t = here (goal.at.loop-i-preserved c).Else-eq in
+    record {
+      fine = records_more bs i c.loop-i.invariant.fine t.fine;
+      each = each_more bs i _ t c.loop-i.invariant.each;
+      sums = gathered_more bs i _ t c.loop-i.gathered _ c.loop-i.invariant.sums c.add.ensures;
+    }
+
+pub account-requires : goal.account-requires
+account-requires c =
+    let bs = c.args.portion.now in
+    let end : c.loop-i.i ≡ record_count bs = omega (arith, c.as_chunks.ensures.front_len) in
+    record {
+      portion_bound = omega (arith, c.as_chunks.ensures.front_len);
+      each = rw end at c.loop-i.invariant.each;
+      gathered = rw end at c.loop-i.invariant.sums;
+    }
 
 pub returns : goal.returns
 returns c =
     let bs = c.args.portion.now in
-    let end : c.loop-i.i ≡ record_count bs = omega arith in
-    let good = c.loop-i.invariant.1 in
-    let each = c.loop-i.invariant.2.each in
-    ap (λ (a : Account). Ok a) c.account_from.ensures
-    ∙ answer_0 bs c.if-portion-ne0.false c.if-n-gt-MOST.false (rw end at good) (none_working (vehicles bs) (rw end at each))
+    let end : c.loop-i.i ≡ record_count bs = omega (arith, c.as_chunks.ensures.front_len) in
+    let each = rw end at c.loop-i.invariant.each in
+    ap (λ (a : Account). Ok a) c.account.ensures
+    ∙ answer_0 bs (whole c.as_chunks.ensures.back_len c.is_empty.ensures c.if-not-is_empty.false) (omega (arith, c.as_chunks.ensures.front_len))
+    (rw end at c.loop-i.invariant.fine) (none_working (vehicles bs) each)
