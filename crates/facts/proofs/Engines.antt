@@ -11,9 +11,9 @@ use Rattle.record.specs.Records.{records, record_count}
 use borrow.Author.Tests.{eq-eqb, ne_eqb, eqb-true}
 use native.Mathlib.Decide.{ℕ_discrete, dec_le}
 use lib.Dec.{eqb}
-use Rattle.record.specs.Vehicles.{good, vehicle, vehicles, reading, is_isolated, is_m, is_v, is_r, is_joined, has_d_load}
+use Rattle.record.specs.Vehicles.{setting_number, good, vehicle, vehicles, reading, is_isolated, is_m, is_v, is_r, is_joined, has_d_load}
 use Rattle.record.specs.declared.vehicle.Vehicle.{Vehicle}
-use Rattle.record.specs.declared.vehicle.Reading.TheVariants.{Good, Bad}
+use Rattle.std.specs.Prelude.{Some, None}
 use Rattle.lists.proofs.Lists.{both}
 use Rattle.record.proofs.Vehicles.{at_most, reading_good, reading_bad, length_bad}
 use Rattle.lists.proofs.Figures.{sum_append, count_append, some_append, least_append, cond_le}
@@ -70,7 +70,7 @@ small_vehicle r g =
       mass = omega (arith, at_most r g 1 (omega arith));
       length = omega (arith, at_most r g 4 (omega arith));
       axles = omega (arith, at_most r g 5 (omega arith));
-      braked = omega (arith, one_setting v.setting v.vmass v.mmass (at_most r g 2 (omega arith)) (at_most r g 3 (omega arith)));
+      braked = omega (arith, one_setting (setting_number v.setting) v.vmass v.mmass (at_most r g 2 (omega arith)) (at_most r g 3 (omega arith)));
       vaxles = omega (arith, cond_le (is_v v) v.axles 24 (at_most r g 5 (omega arith)));
       dloads = omega (arith, cond_le (has_d_load v) 1 1 (omega arith));
       isolated = omega (arith, cond_le (is_isolated v) 1 1 (omega arith));
@@ -85,7 +85,7 @@ pub small_taken : (r : List ℕ) → AtMost 1 (engines_of (taken (reading r)))
 unfolding reading
 small_taken r = go (good r) refl
   where
-    go : (b : Bool) → good r ≡ b → AtMost 1 (engines_of (taken (cond b (Good (vehicle r)) Bad)))
+    go : (b : Bool) → good r ≡ b → AtMost 1 (engines_of (taken (cond b (Some (vehicle r)) None)))
     go true e = small_vehicle r e
     go false e = small_none
 

@@ -9,7 +9,7 @@ use lib.ListN.{length}
 use borrow.Author.Tests.{lt-ltb, le-ltb}
 use Rattle.lists.specs.Words.{◌is◌, ◌above◌, all}
 use Rattle.lists.specs.Figures.{count, some}
-use Rattle.record.specs.Vehicles.{is_hauled_engine, is_isolated, is_m}
+use Rattle.record.specs.Vehicles.{setting_number, is_hauled_engine, is_isolated, is_m}
 use Rattle.record.specs.declared.vehicle.Vehicle.{Vehicle}
 use Rattle.lists.proofs.Figures.{first_leading, some_firsts, some_after}
 use Rattle.account.specs.Accounts.{account_of}
@@ -27,11 +27,11 @@ rule_20 hauled = first_leading is_isolated (reverse hauled)
 
 pub rule_43 : (hauled : List Vehicle) → first_five_v hauled ≡ first_five_v_by (account_of hauled)
 unfolding account_of
-rule_43 hauled = some_firsts (λ s. s is 2) (λ (v : Vehicle). v.setting) 4 refl 5 hauled
+rule_43 hauled = some_firsts (λ s. s is 2) (λ (v : Vehicle). setting_number v.setting) 4 refl 5 hauled
 
 pub rule_44 : (hauled : List Vehicle) → after_fifth_m hauled ≡ after_fifth_m_by (account_of hauled)
 unfolding account_of
-rule_44 hauled = some_after (λ s. s is 1) (λ (v : Vehicle). v.setting) 4 refl 5 hauled
+rule_44 hauled = some_after (λ s. s is 1) (λ (v : Vehicle). setting_number v.setting) 4 refl 5 hauled
 
 -- braked as a long locomotive, over the records and over the engines and the figures
 all_some : {A : Type 0} (p : A → Bool) (xs : List A) → all p xs ≡ not (some (λ x. not (p x)) xs)
@@ -46,7 +46,7 @@ all_some p (x ∷ xs) = go (p x) (all_some p xs)
 pub long_agrees : (working hauled : List Vehicle) → is_long working hauled ≡ is_long_by (engines_of working) (account_of hauled)
 unfolding account_of engines_of
 long_agrees working hauled =
-    ap₂ (λ (x y : Bool). x && not y) (all_some is_m working) (some_firsts (λ s. s is 2 || s is 3) (λ (v : Vehicle). v.setting) 4 refl 5 hauled)
+    ap₂ (λ (x y : Bool). x && not y) (all_some is_m working) (some_firsts (λ s. s is 2 || s is 3) (λ (v : Vehicle). setting_number v.setting) 4 refl 5 hauled)
 
 -- every vehicle is a hauled engine or is none
 engines_or_not : (p : Vehicle → Bool) (xs : List Vehicle) → length xs ≡ count p xs + count (λ v. not (p v)) xs

@@ -6,9 +6,9 @@ use mathlib.Core.Bool.{Bool, true, false, not, ◌&&◌, ◌||◌, cond, or-fals
 use mathlib.Core.List.{List, [], ◌∷◌, ◌++◌}
 use lib.ListN.{length, take, drop}
 use lib.Seq.{take_at, drop_at}
-use borrow.Author.Tests.{eq-eqb, ne_eqb}
+use borrow.Author.Tests.{eqb-true, ne_eqb}
 use Rattle.lists.specs.Words.{leading, Every}
-use Rattle.record.specs.Vehicles.{is_wagon, is_hauled_engine, is_working, is_isolated, is_m, is_v, is_r, is_joined, has_matrossow, has_d_load}
+use Rattle.record.specs.Vehicles.{kind_number, is_wagon, is_hauled_engine, is_working, is_isolated, is_m, is_v, is_r, is_joined, has_matrossow, has_d_load}
 use Rattle.record.specs.declared.vehicle.Vehicle.{Vehicle}
 use Rattle.lists.specs.Figures.{sum, count, some, first_is, longest, behind, least}
 use Rattle.account.specs.Accounts.{account_of}
@@ -26,19 +26,16 @@ use Rattle.facts.specs.declared.Facts.{Facts}
 use Rattle.facts.specs.Facts.{working_of, hauled_of, facts_of, beside_of, facts_beside, held, Bounded, Working}
 
 -- ---- working engines in front of hauled vehicles
-working_each : (working : List Vehicle) → Every Working working → Every (λ v. is_working v ≡ true) working
-working_each = every_map Working (λ v. is_working v ≡ true) (λ v w. eq-eqb v.kind 2 w)
-
 none : (p : Vehicle → Bool) → ((v : Vehicle) → Working v → p v ≡ false) → (working : List Vehicle) → Every Working working → some p working ≡ false
 none p h working w = each_none p working (every_map Working (λ v. p v ≡ false) h working w)
 
 not_wagon : (v : Vehicle) → Working v → is_wagon v ≡ false
-not_wagon v w = ne_eqb v.kind 0 (λ q. omega arith)
+not_wagon v w = ne_eqb (kind_number v.kind) 0 (λ q. omega (arith, eqb-true (kind_number v.kind) 2 w))
 
 -- the two readings of a train agree: over its records, and beside its working engines from the account of the hauled
 module _ (working hauled : List Vehicle) (w : Every Working working) (first : first_is is_working hauled ≡ false) where
   lead : leading is_working (working ++ hauled) ≡ length working
-  lead = leading_parted is_working working hauled (working_each working w) first
+  lead = leading_parted is_working working hauled w first
 
   pub engines_are : working_of (working ++ hauled) ≡ working
   engines_are = ap (λ (n : ℕ). take n (working ++ hauled)) lead ∙ take_at working hauled (length working) refl

@@ -1,37 +1,29 @@
 -- Small trains whose facts are told one by one, in both readings: over the records, and beside the working engines from the account.
-use Rattle.std.specs.Prelude.{ℕ, Bool, cond, List, [], ◌∷◌, ◌++◌, replicate}
+use Rattle.std.specs.Prelude.{ℕ, Bool, true, false, cond, List, [], ◌∷◌, ◌++◌, replicate}
 use Rattle.record.specs.declared.vehicle.Vehicle.{Vehicle}
+use Rattle.record.specs.declared.vehicle.Kind.{Kind}
+use Rattle.record.specs.declared.vehicle.Kind.TheVariants.{Wagon, HauledEngine, WorkingEngine}
+use Rattle.record.specs.declared.vehicle.Setting.{Setting}
+use Rattle.record.specs.declared.vehicle.Setting.TheVariants.{Isolated, M, V, R}
 use Rattle.account.specs.Accounts.{account_of}
 use Rattle.facts.specs.Facts.{facts_of, facts_beside}
 use Rattle.facts.specs.Named as name
 use Rattle.facts.specs.declared.Facts.{Facts}
 
--- kind, setting; joined to the pipe, Matrossow brake, D load, each 0 or 1
-abbrev marked : ℕ → ℕ → ℕ → ℕ → ℕ → Vehicle
+-- kind, setting; joined to the pipe, Matrossow brake, D load
+abbrev marked : Kind → Setting → Bool → Bool → Bool → Vehicle
 marked kind setting joined matrossow dload =
     record { number = 18; mass = 600; vmass = 500; mmass = 400; length = 150; axles = 4; kind = kind; setting = setting; joined = joined; speed = 120; matrossow = matrossow; dload = dload }
 
 -- joined to the pipe and nothing else: a wagon, a hauled engine, a working engine; isolated, in M, in V, in R
-abbrev wagon : ℕ → Vehicle
-wagon setting = marked 0 setting 1 0 0
+abbrev wagon : Setting → Vehicle
+wagon setting = marked Wagon setting true false false
 
-abbrev hauled_engine : ℕ → Vehicle
-hauled_engine setting = marked 1 setting 1 0 0
+abbrev hauled_engine : Setting → Vehicle
+hauled_engine setting = marked HauledEngine setting true false false
 
-abbrev engine : ℕ → Vehicle
-engine setting = marked 2 setting 1 0 0
-
-abbrev isolated : ℕ
-isolated = 0
-
-abbrev in_m : ℕ
-in_m = 1
-
-abbrev in_v : ℕ
-in_v = 2
-
-abbrev in_r : ℕ
-in_r = 3
+abbrev engine : Setting → Vehicle
+engine setting = marked WorkingEngine setting true false false
 
 -- ---- marks
 -- D loads, isolated records, and the names of the marks that hold
@@ -65,43 +57,43 @@ twice x = x ∷ x ∷ []
 
 -- an engine in M before two wagons in V, of which each case changes one thing
 abbrev hauled_by : Vehicle → List (List ℕ)
-hauled_by e = both told_of (e ∷ []) (replicate 2 (wagon in_v))
+hauled_by e = both told_of (e ∷ []) (replicate 2 (wagon V))
 
 abbrev hauling : List Vehicle → List (List ℕ)
-hauling hauled = both told_of (engine in_m ∷ []) hauled
+hauling hauled = both told_of (engine M ∷ []) hauled
 
 abbrev pub marks : List (List ℕ)
 marks =
-    hauled_by (engine in_m)
+    hauled_by (engine M)
     -- the working engine in R; not joined; with a D load; isolated; in V; with byte 21 set, which 18 asks of wagons alone
-    ++ hauled_by (engine in_r)
-    ++ hauled_by (marked 2 in_m 0 0 0)
-    ++ hauled_by (marked 2 in_m 1 0 1)
-    ++ hauled_by (engine isolated)
-    ++ hauled_by (engine in_v)
-    ++ hauled_by (marked 2 in_m 1 1 0)
+    ++ hauled_by (engine R)
+    ++ hauled_by (marked WorkingEngine M false false false)
+    ++ hauled_by (marked WorkingEngine M true false true)
+    ++ hauled_by (engine Isolated)
+    ++ hauled_by (engine V)
+    ++ hauled_by (marked WorkingEngine M true true false)
     -- two working engines, the second in V
-    ++ both told_of (engine in_m ∷ engine in_v ∷ []) (replicate 2 (wagon in_m))
+    ++ both told_of (engine M ∷ engine V ∷ []) (replicate 2 (wagon M))
     -- a wagon in R; not joined; with a D load; with byte 21 set, and isolated too
-    ++ hauling (wagon in_v ∷ wagon in_r ∷ wagon in_v ∷ [])
-    ++ hauling (wagon in_v ∷ marked 0 in_v 0 0 0 ∷ wagon in_v ∷ [])
-    ++ hauling (wagon in_v ∷ marked 0 in_v 1 0 1 ∷ wagon in_v ∷ [])
-    ++ hauling (wagon in_v ∷ marked 0 in_v 1 1 0 ∷ wagon in_v ∷ [])
-    ++ hauling (wagon in_v ∷ marked 0 isolated 1 1 0 ∷ wagon in_v ∷ [])
+    ++ hauling (wagon V ∷ wagon R ∷ wagon V ∷ [])
+    ++ hauling (wagon V ∷ marked Wagon V false false false ∷ wagon V ∷ [])
+    ++ hauling (wagon V ∷ marked Wagon V true false true ∷ wagon V ∷ [])
+    ++ hauling (wagon V ∷ marked Wagon V true true false ∷ wagon V ∷ [])
+    ++ hauling (wagon V ∷ marked Wagon Isolated true true false ∷ wagon V ∷ [])
     -- a hauled engine in front with byte 21 set, in M and in V; behind a wagon; with one wagon alone
-    ++ hauling (marked 1 in_m 1 1 0 ∷ replicate 2 (wagon in_v))
-    ++ hauling (hauled_engine in_v ∷ replicate 2 (wagon in_v))
-    ++ hauling (wagon in_v ∷ hauled_engine in_m ∷ wagon in_v ∷ [])
-    ++ hauling (hauled_engine in_m ∷ wagon in_v ∷ [])
+    ++ hauling (marked HauledEngine M true true false ∷ replicate 2 (wagon V))
+    ++ hauling (hauled_engine V ∷ replicate 2 (wagon V))
+    ++ hauling (wagon V ∷ hauled_engine M ∷ wagon V ∷ [])
+    ++ hauling (hauled_engine M ∷ wagon V ∷ [])
     -- the first, and the last, isolated
-    ++ hauling (wagon isolated ∷ replicate 2 (wagon in_v))
-    ++ hauling (replicate 2 (wagon in_v) ++ wagon isolated ∷ [])
+    ++ hauling (wagon Isolated ∷ replicate 2 (wagon V))
+    ++ hauling (replicate 2 (wagon V) ++ wagon Isolated ∷ [])
     -- four in M and a fifth in V; five in M and a sixth in V; in M; in R; and R the fifth
-    ++ hauling (replicate 4 (wagon in_m) ++ wagon in_v ∷ [])
-    ++ hauling (replicate 5 (wagon in_m) ++ wagon in_v ∷ [])
-    ++ hauling (replicate 5 (wagon in_m) ++ wagon in_m ∷ [])
-    ++ hauling (replicate 5 (wagon in_m) ++ wagon in_r ∷ [])
-    ++ hauling (replicate 4 (wagon in_m) ++ wagon in_r ∷ wagon in_v ∷ [])
+    ++ hauling (replicate 4 (wagon M) ++ wagon V ∷ [])
+    ++ hauling (replicate 5 (wagon M) ++ wagon V ∷ [])
+    ++ hauling (replicate 5 (wagon M) ++ wagon M ∷ [])
+    ++ hauling (replicate 5 (wagon M) ++ wagon R ∷ [])
+    ++ hauling (replicate 4 (wagon M) ++ wagon R ∷ wagon V ∷ [])
 
 abbrev pub expected_marks : List (List ℕ)
 expected_marks =
@@ -152,22 +144,22 @@ figures_in f =
     ∷ []
 
 -- kind, setting, mass, V mass, M mass, length, axles, speed
-abbrev vehicle : ℕ → ℕ → ℕ → ℕ → ℕ → ℕ → ℕ → ℕ → Vehicle
+abbrev vehicle : Kind → Setting → ℕ → ℕ → ℕ → ℕ → ℕ → ℕ → Vehicle
 vehicle kind setting mass v m length axles speed =
-    record { number = 18; mass = mass; vmass = v; mmass = m; length = length; axles = axles; kind = kind; setting = setting; joined = 1; speed = speed; matrossow = 0; dload = 0 }
+    record { number = 18; mass = mass; vmass = v; mmass = m; length = length; axles = axles; kind = kind; setting = setting; joined = true; speed = speed; matrossow = false; dload = false }
 
 -- working engines in V and in M, the second of this speed; hauled engines in M and in V; wagons in V, in M, two isolated, in R
 abbrev train : ℕ → List (List ℕ)
 train speed =
     both figures_in
-    (vehicle 2 in_v 900 1001 810 201 4 140 ∷ vehicle 2 in_m 850 952 753 192 6 speed ∷ [])
-    (vehicle 1 in_m 840 704 655 183 6 125
-    ∷ vehicle 1 in_v 830 696 647 174 5 124
-    ∷ vehicle 0 in_v 600 508 459 165 4 123
-    ∷ vehicle 0 in_m 500 410 361 156 3 122
-    ∷ vehicle 0 isolated 400 312 263 147 2 121
-    ∷ vehicle 0 isolated 300 214 165 138 1 110
-    ∷ vehicle 0 in_r 200 116 167 129 8 112
+    (vehicle WorkingEngine V 900 1001 810 201 4 140 ∷ vehicle WorkingEngine M 850 952 753 192 6 speed ∷ [])
+    (vehicle HauledEngine M 840 704 655 183 6 125
+    ∷ vehicle HauledEngine V 830 696 647 174 5 124
+    ∷ vehicle Wagon V 600 508 459 165 4 123
+    ∷ vehicle Wagon M 500 410 361 156 3 122
+    ∷ vehicle Wagon Isolated 400 312 263 147 2 121
+    ∷ vehicle Wagon Isolated 300 214 165 138 1 110
+    ∷ vehicle Wagon R 200 116 167 129 8 112
     ∷ [])
 
 -- the slowest record is a wagon of 110, and the engine

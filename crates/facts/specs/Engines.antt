@@ -1,11 +1,9 @@
 -- The working engines' own figures.
-use Rattle.std.specs.Prelude.{ℕ, ◌+◌, ◌≤◌, min, ◌≡◌, true, not, ◌||◌, cond, List, [], ◌∷◌, ◌++◌, length, take, drop}
+use Rattle.std.specs.Prelude.{ℕ, ◌+◌, ◌≤◌, min, ◌≡◌, true, not, ◌||◌, cond, Option, Some, None, List, [], ◌∷◌, ◌++◌, length, take, drop}
 use Rattle.lists.specs.Words.{all}
 use Rattle.record.specs.Records.{records_of, is_whole}
 use Rattle.record.specs.Vehicles.{good, reading, is_isolated, is_m, is_v, is_r, is_joined, has_d_load}
 use Rattle.record.specs.declared.vehicle.Vehicle.{Vehicle}
-use Rattle.record.specs.declared.vehicle.Reading.{Reading}
-use Rattle.record.specs.declared.vehicle.Reading.TheVariants.{Good, Bad}
 use Rattle.lists.specs.Figures.{sum, count, some, least}
 use Rattle.facts.specs.declared.engine.Engines.{Engines}
 
@@ -28,9 +26,9 @@ engines_of working =
     }
 
 -- the vehicle of a reading, where it is good
-abbrev pub taken : Reading → List Vehicle
-taken (Good v) = v ∷ []
-taken Bad = []
+abbrev pub taken : Option Vehicle → List Vehicle
+taken (Some v) = v ∷ []
+taken None = []
 
 -- the engines that one or two records say
 unfoldable pub engines_in : List ℕ → List Vehicle

@@ -1,5 +1,5 @@
 -- The facts of a train that the rules and the sheet read: over its records, and beside its working engines from an account.
-use Rattle.std.specs.Prelude.{ℕ, ◌+◌, ◌%◌, ◌≤◌, min, ◌≡◌, not, ◌&&◌, ◌||◌, cond, List, length, take, drop}
+use Rattle.std.specs.Prelude.{ℕ, ◌+◌, ◌%◌, ◌≤◌, min, ◌≡◌, true, not, ◌&&◌, ◌||◌, cond, List, length, take, drop}
 use Rattle.lists.specs.Words.{◌above◌, leading}
 use Rattle.record.specs.Vehicles.{is_wagon, is_hauled_engine, is_working, is_isolated, is_m, is_v, is_r, is_joined, has_matrossow, has_d_load}
 use Rattle.record.specs.declared.vehicle.Vehicle.{Vehicle}
@@ -18,7 +18,7 @@ abbrev pub hauled_of : List Vehicle → List Vehicle
 hauled_of train = drop (leading is_working train) train
 
 abbrev pub Working : Vehicle → Type 0
-Working v = v.kind ≡ 2
+Working v = is_working v ≡ true
 
 -- in rules and sheet a record is any of the train
 unfoldable pub facts_of : List Vehicle → Facts

@@ -1,10 +1,9 @@
 // The figures of a working engine.
-ghost use Rattle.std.specs.Prelude.{◌≡◌, cond, [], ◌∷◌};
+ghost use Rattle.std.specs.Prelude.{◌≡◌, [], ◌∷◌};
 ghost use Rattle.record.specs.Vehicles.{reading};
 ghost use Rattle.facts.specs.Engines.{engines_of, taken};
 
-use lists::number::lesser;
-use record::vehicle::{Reading, Vehicle, read};
+use record::vehicle::{Setting, Vehicle, read};
 
 #[derive(Clone, Copy)]
 pub(crate) struct Engines {
@@ -25,33 +24,25 @@ pub(crate) struct Engines {
     pub isolated: u32,
 }
 
-// `x` where the mark holds, and else 0.
-fn only(mark: bool, x: u32) -> u32
-    ensures { result ≡ cond mark x 0 }
-{
-    if mark { x } else { 0 }
-}
+// No engine's figures.
+const NONE: Engines = Engines {
+    count: 0,
+    mass: 0,
+    length: 0,
+    axles: 0,
+    vmass: 0,
+    mmass: 0,
+    vaxles: 0,
+    notm: false,
+    setr: false,
+    unjoined: false,
+    slowest: 200,
+    dloads: 0,
+    isolated: 0,
+};
 
-fn no_engine() -> Engines
-    ensures { result ≡ engines_of [] }
-{
-    Engines {
-        count: 0,
-        mass: 0,
-        length: 0,
-        axles: 0,
-        vmass: 0,
-        mmass: 0,
-        vaxles: 0,
-        notm: false,
-        setr: false,
-        unjoined: false,
-        slowest: 200,
-        dloads: 0,
-        isolated: 0,
-    }
-}
-
+// One engine's.
+#[tactic(auto, unfolding(crate::specs::Engines::engines_of))]
 fn one_engine(v: Vehicle) -> Engines
     ensures { result ≡ engines_of (v ∷ []) }
 {
@@ -60,24 +51,25 @@ fn one_engine(v: Vehicle) -> Engines
         mass: v.mass,
         length: v.length,
         axles: v.axles,
-        vmass: only(v.setting == 2, v.vmass),
-        mmass: only(v.setting == 1, v.mmass),
-        vaxles: only(v.setting == 2, v.axles),
-        notm: !(v.setting == 1),
-        setr: v.setting == 3,
-        unjoined: !(v.joined == 1),
-        slowest: lesser(v.speed, 200),
-        dloads: only(v.dload == 1, 1),
-        isolated: only(v.setting == 0, 1),
+        vmass: if v.setting == Setting::V { v.vmass } else { 0 },
+        mmass: if v.setting == Setting::M { v.mmass } else { 0 },
+        vaxles: if v.setting == Setting::V { v.axles } else { 0 },
+        notm: v.setting != Setting::M,
+        setr: v.setting == Setting::R,
+        unjoined: !v.joined,
+        slowest: v.speed.min(200),
+        dloads: u32::from(v.dload),
+        isolated: u32::from(v.setting == Setting::Isolated),
     }
 }
 
 // The figures of the engine that a record says, where it is good.
+#[tactic(auto, unfolding(crate::specs::Engines::engines_of))]
 pub(crate) fn engine_at(bytes: &[u8]) -> Engines
     ensures { result ≡ engines_of (taken (reading bytes.now)) }
 {
-    let Reading::Good(v) = read(bytes) else {
-        return no_engine();
-    };
-    one_engine(v)
+    match read(bytes) {
+        Some(v) => one_engine(v),
+        None => NONE,
+    }
 }

@@ -1,16 +1,15 @@
 // The facts of a train that the rules and the sheet read, from its working engines and an account of what they haul.
 #![tactic(auto)]
 
-ghost use Rattle.std.specs.Prelude.{◌≡◌, not, ◌&&◌, ◌||◌, cond, ◌+◌, ◌%◌, ◌≤◌, min};
+ghost use Rattle.std.specs.Prelude.{◌≡◌, not, ◌&&◌, ◌||◌, ◌+◌, ◌%◌};
 ghost use Rattle.lists.specs.Words.{◌is◌};
-ghost use Rattle.lists.specs.Figures.{count, some};
-ghost use Rattle.facts.specs.Readings.{first_five_v_by, few_wagons_by};
+ghost use Rattle.lists.specs.Figures.{some};
+ghost use Rattle.facts.specs.Readings.{first_five_v_by, after_fifth_m_by, few_wagons_by};
 ghost use Rattle.facts.specs.Engines.{both_of, engines_in};
 ghost use Rattle.facts.specs.Facts.{beside_of, facts_beside, held};
 
 use crate::engine::{Engines, engine_at};
 use account::Account;
-use lists::number::lesser;
 use record::vehicle::SIZE;
 
 mod engine;
@@ -64,72 +63,41 @@ pub struct Facts {
 fn figure(x: u32, y: u32, z: u32) -> u32
     ensures { result ≡ (x + y + z) % 4294967296 }
 {
-    ((x as u64 + y as u64 + z as u64) % 4_294_967_296) as u32
+    x.wrapping_add(y).wrapping_add(z)
 }
 
-// The same in a byte.
-fn small_figure(x: u32, y: u32, z: u32) -> u8
-    ensures { result ≡ (x + y + z) % 256 }
+// A figure in a byte.
+fn byte(x: u32) -> u8
+    ensures { result ≡ x % 256 }
 {
-    ((x as u64 + y as u64 + z as u64) % 256) as u8
-}
-
-// The lesser of two, in a byte.
-fn least(x: u32, y: u32) -> u8
-    ensures { result ≡ min x y % 256 }
-{
-    (lesser(x, y) % 256) as u8
+    (x % 256) as u8
 }
 
 fn first_five_v(a: Account) -> bool
     ensures { result ≡ first_five_v_by a }
 {
-    let first = a.first;
-    (first[0] == 2) | (first[1] == 2) | (first[2] == 2) | (first[3] == 2) | (first[4] == 2)
+    a.first.contains(&2)
 }
 
-fn one_if(mark: bool) -> u32
-    ensures { (result ≡ cond mark 1 0) × (result ≤ 1) }
+// A hauled vehicle after the fifth is set to M: more are than of the first five.
+fn after_fifth_m(a: Account) -> bool
+    ensures { result ≡ after_fifth_m_by a }
 {
-    if mark { 1 } else { 0 }
-}
-
-// How many of the first five are set to M.
-fn first_five_m(a: Account) -> u32
-    ensures { result ≡ count (λ s. s is 1) a.first }
-{
-    let first = a.first;
-    one_if(first[0] == 1)
-        + one_if(first[1] == 1)
-        + one_if(first[2] == 1)
-        + one_if(first[3] == 1)
-        + one_if(first[4] == 1)
-}
-
-fn v_or_r(setting: u32) -> bool
-    ensures { result ≡ (setting is 2 || setting is 3) }
-{
-    (setting == 2) | (setting == 3)
+    a.first.iter().filter(|s| **s == 1).count() < a.mset as usize
 }
 
 // Braked as a long locomotive: every working engine set to M, none of the first five set to V or R (000, 1403.2).
 fn is_long(working_not_m: bool, a: Account) -> bool
     ensures { result ≡ (not working_not_m && not (some (λ s. s is 2 || s is 3) a.first)) }
 {
-    let first = a.first;
-    !working_not_m
-        & !(v_or_r(first[0])
-            | v_or_r(first[1])
-            | v_or_r(first[2])
-            | v_or_r(first[3])
-            | v_or_r(first[4]))
+    !working_not_m & !(a.first.contains(&2) | a.first.contains(&3))
 }
 
 // Fewer than 2 wagons.
 fn few_wagons(a: Account) -> bool
     ensures { result ≡ few_wagons_by a }
 {
-    (a.count as u64) < a.engines as u64 + 2
+    u64::from(a.count) < u64::from(a.engines) + 2
 }
 
 fn beside(e: Engines, s: Engines, a: Account) -> Facts
@@ -150,38 +118,30 @@ fn beside(e: Engines, s: Engines, a: Account) -> Facts
         hauledM: 0 < a.mset,
         workingNotM: e.notm | s.notm,
         firstFiveV: first_five_v(a),
-        afterFifthM: first_five_m(a) < a.mset,
+        afterFifthM: after_fifth_m(a),
         firstIsolated: 0 < a.leading,
         lastIsolated: 0 < a.trailing,
         behind: a.behind,
         setR: e.setr | s.setr | a.rule16,
         notJoined: e.unjoined | s.unjoined | a.rule17,
         matrossow: a.rule18,
-        slowest: least(lesser(e.slowest, s.slowest), a.slowest),
-        dloads: small_figure(e.dloads, s.dloads, a.dloads),
-        isolated: small_figure(e.isolated, s.isolated, a.isolated),
+        slowest: byte(e.slowest.min(s.slowest).min(a.slowest)),
+        dloads: byte(figure(e.dloads, s.dloads, a.dloads)),
+        isolated: byte(figure(e.isolated, s.isolated, a.isolated)),
         enginesMMass: figure(e.mmass, s.mmass, a.enginemmass),
         wagonsVMass: a.wagonvmass,
         hauledEngineNotM: a.enginenotm,
         long: is_long(e.notm | s.notm, a),
         fewWagons: few_wagons(a),
-        slowestHauled: (a.slowest % 256) as u8,
-        slowestWorking: least(e.slowest, s.slowest),
+        slowestHauled: byte(a.slowest),
+        slowestWorking: byte(e.slowest.min(s.slowest)),
     }
-}
-
-fn at_most_one(n: usize) -> usize
-    ensures { result ≡ min 24 n }
-{
-    if n < SIZE { n } else { SIZE }
 }
 
 // The facts of one or two working engines beside an account.
 pub fn facts_beside(engines: &[u8], hauled: Account) -> Facts
     ensures { result ≡ held (facts_beside (engines_in engines.now) hauled) }
 {
-    let cut = at_most_one(engines.len());
-    let first = engine_at(&engines[..cut]);
-    let second = engine_at(&engines[cut..]);
-    beside(first, second, hauled)
+    let (first, second) = engines.split_at(engines.len().min(SIZE));
+    beside(engine_at(first), engine_at(second), hauled)
 }
