@@ -1,5 +1,5 @@
 -- `facts::after_fifth_m` meets its contract: what the chain counts is what lists count. Assumes nothing.
-use Rattle.std.proofs.Common.{rules, ◌≡◌, ℕ, nat_lt, nat_eq, count_by, ap, ◌∙◌, ◌==◌}
+use Rattle.std.proofs.Common.{rules, ◌≡◌, ℕ, nat_lt, count_by, ap, ◌∙◌, ◌==◌}
 use Rattle.facts.proofs.Counts.{counted}
 use Rattle.facts.proofs.after_fifth_m.Goals as goal
 

@@ -1,5 +1,5 @@
 -- `facts::is_long` meets its contract: one is set to V or R where one is to V, or one to R. Assumes nothing.
-use Rattle.std.proofs.Common.{rules, ◌≡◌, ℕ, Bool, not, ◌&&◌, ◌||◌, nat_eq, ap, ap₂, ◌∙◌, ◌==◌}
+use Rattle.std.proofs.Common.{Bool, not, ◌&&◌, ◌||◌, ap, ap₂, ◌∙◌, ◌==◌}
 use Rattle.facts.proofs.Counts.{some_or}
 use Rattle.facts.proofs.is_long.Goals as goal
 
