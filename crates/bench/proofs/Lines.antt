@@ -5,7 +5,7 @@ use mathlib.Core.Bool.{true}
 use borrow.Author.Tests.{not-false}
 use mathlib.Core.List.{List, [], ◌∷◌, ◌++◌}
 use native.Mathlib.Omega.{arith}
-use lib.ListN.{length, take, drop, length-take, length-append, drop_of_length-le}
+use lib.ListN.{length, take, length-take, length-append, drop_of_length-le}
 use Rattle.lists.specs.Words.{◌is◌}
 use Rattle.record.specs.Vehicles.{vehicles}
 use Rattle.order.specs.Orders.{good_order, order_of, order_read}
@@ -19,7 +19,7 @@ use Rattle.judge.specs.declared.Answer.TheVariants.{NotWhole}
 use Rattle.judge.proofs.Demands.{sheet_bytes_lem, length_most, train_lent}
 use Rattle.bench.specs.Texts.{glyph_of, decimal, field, last_field}
 use Rattle.bench.specs.Lines.{order_part, vehicle_part, answer_of, sheet_in, answer_fields, line_by, line_of}
-use Rattle.bench.proofs.Texts.{field_length, last_length, last_shown, front_within}
+use Rattle.bench.proofs.Texts.{field_length, last_length, last_shown}
 
 -- ---- up to 24 bytes is refusal 1, whatever they are: "1 0 -"
 vehicles_none : (input : List ℕ) → length input ≤ 24 → vehicle_part input ≡ []
@@ -51,10 +51,6 @@ unfolding line_of sheet_in
 line_bound input =
     let o = order_of (order_part input) in
     line_length (number_of (answer_of input)) (place_of (answer_of input)) (sheet_in input) (omega (arith, sheet_bytes_lem (facts_of (vehicles (vehicle_part input))) o, length_most o.book))
-
--- a line in front of another lies in it
-pub front_fits : (input l : List ℕ) {m : List ℕ} {r : ℕ} → r ≡ length (line_of input) → m ≡ line_of input ++ drop (length (line_of input)) l → r ≤ length m
-front_fits input l e q = front_within (line_of input) l e q
 
 -- ---- what the judging library answers, and writes into a blank sheet, makes the line of the input
 module _ (input vs os blank : List ℕ) {answer : Answer} {sheet : List ℕ} (e : length blank ≡ 33) (v : vs ≡ vehicle_part input) (o : os ≡ order_part input)

@@ -1,12 +1,11 @@
--- Laws of ROUTE's line: how long it is, how it is put, and that what is judged makes it. Assumes nothing.
+-- Laws of ROUTE's line: how long it is, and that what is judged makes it. Assumes nothing.
 use Prim.Native.Nat.{ℕ, ◌+◌, ◌*◌, ◌/◌, ◌≤◌}
 use mathlib.Core.Path.{◌≡◌, refl, sym, ap, ◌∙◌}
 use mathlib.Core.Bool.{Bool, true, false}
-use mathlib.Core.List.{List, [], ◌∷◌, ◌++◌, append_assoc}
+use mathlib.Core.List.{List, [], ◌∷◌, ◌++◌}
 use native.Mathlib.Omega.{arith}
 use borrow.Author.Tests.{ltb-false}
-use lib.ListN.{length, take, drop, length-append, drop_of_length-le}
-use lib.Seq.{sets}
+use lib.ListN.{length, take, length-append, drop_of_length-le}
 use Rattle.lists.specs.Words.{◌is◌}
 use Rattle.record.specs.Records.{record_count}
 use Rattle.record.specs.Vehicles.{vehicles}
@@ -20,37 +19,17 @@ use Rattle.route.proofs.Demands.{one_byte_a_section}
 use Rattle.bench.specs.Texts.{glyph_of, decimal, field, last_field}
 use Rattle.bench.specs.Lines.{answer_fields}
 use Rattle.bench.specs.Routes.{section_count, route_orders, route_vehicles, route_of, speeds_in, route_line_by, route_line_of}
-use Rattle.bench.proofs.Texts.{field_length, last_length, last_shown, text_on, front_within}
+use Rattle.bench.proofs.Texts.{field_length, last_length, last_shown}
 use Rattle.bench.proofs.Lines.{answer_length}
 
--- ---- how it is put
+-- ---- how long
 module _ (number place category : ℕ) (speeds : List ℕ) where
-  abbrev before : List ℕ
-  before = answer_fields number place ++ field category
-
-  abbrev last : List ℕ
-  last = last_field (number is 0) speeds
-
-  nested : before ++ last ≡ route_line_by number place category speeds
-  unfolding route_line_by
-  nested = append_assoc (answer_fields number place) (field category) last
-
-  pub route_line_put : (l : List ℕ) {m₁ m₂ m₃ : List ℕ} {k₁ k₂ k₃ : ℕ}
-      → k₁ ≡ length (answer_fields number place) → m₁ ≡ sets l 0 (answer_fields number place)
-      → k₂ ≡ k₁ + length (field category) → m₂ ≡ sets m₁ k₁ (field category)
-      → k₃ ≡ k₂ + length last → m₃ ≡ sets m₂ k₂ last
-      → (k₃ ≡ length (route_line_by number place category speeds)) × (m₃ ≡ sets l 0 (route_line_by number place category speeds))
-  route_line_put l e₁ q₁ e₂ q₂ e₃ q₃ =
-      let two = text_on l (answer_fields number place) (field category) e₁ q₁ e₂ q₂ in
-      let three = text_on l before last two.0 two.1 e₃ q₃ in
-      (three.0 ∙ ap length nested, three.1 ∙ ap (sets l 0) nested)
-
   -- with at most 64 speeds, where they are shown
   pub route_line_length : (number is 0 ≡ true → length speeds ≤ 64) → length (route_line_by number place category speeds) ≤ 192
-  unfolding last_field
+  unfolding route_line_by last_field
   route_line_length few =
-      let e : length (before ++ last) ≡ length (route_line_by number place category speeds) = ap length nested in
-      omega (arith, e, length-append before last, length-append (answer_fields number place) (field category), answer_length number place, field_length category, shown_length (number is 0) few)
+      let behind = field category ++ last_field (number is 0) speeds in
+      omega (arith, length-append (answer_fields number place) behind, length-append (field category) (last_field (number is 0) speeds), answer_length number place, field_length category, shown_length (number is 0) few)
     where
       shown_length : (done : Bool) → (done ≡ true → length speeds ≤ 64) → length (last_field done speeds) ≤ 129
       shown_length true h = omega (arith, h refl, last_length true speeds)
@@ -67,10 +46,6 @@ unfolding route_line_of route_of speeds_in
 route_line_bound input =
     let f = facts_of (vehicles (route_vehicles input)) in
     route_line_length (number_of (route_of input).answer) (place_of (route_of input).answer) (route_of input).granted (speeds_in input) (λ done. omega (arith, roomy (route_vehicles input) (route_orders input) 64 done, one_byte_a_section f (route_orders input)))
-
--- a line in front of another lies in it
-pub route_front_fits : (input l : List ℕ) {m : List ℕ} {r : ℕ} → r ≡ length (route_line_of input) → m ≡ route_line_of input ++ drop (length (route_line_of input)) l → r ≤ length m
-route_front_fits input l e q = front_within (route_line_of input) l e q
 
 -- ---- what is answered of the route, and written into 64 blank bytes, makes the line of the input
 module _ (input vs os blank : List ℕ) {given : Route} {speeds : List ℕ} (e : length blank ≡ 64) (v : vs ≡ route_vehicles input) (o : os ≡ route_orders input)

@@ -1,41 +1,39 @@
 -- Laws of a text in a line, of digits and of hex. Assumes nothing.
-use Prim.Native.Nat.{ℕ, zero, suc, ◌+◌, ◌*◌, ◌-◌, ◌/◌, ◌%◌, ◌≤◌, ◌<◌, max}
-use mathlib.Core.Path.{◌≡◌, refl, sym, ap, ap₂, ◌∙◌}
-use mathlib.Core.Bool.{Bool, true, false, cond}
-use mathlib.Core.List.{List, [], ◌∷◌, ◌++◌}
-use native.Mathlib.Nat.{zero-add, add-zero, not-suc-le-zero}
-use native.Mathlib.Numerals.{add-one}
-use native.Mathlib.Omega.{arith}
-use borrow.Author.Tests.{lt-ltb, le-ltb}
-use lib.Dec.{ltb}
-use lib.ListN.{length, get_or, take, drop, set, length-take, length-append}
-use lib.Seq.{sets, sets-eq, length-sets, take-suc, take_at, length-take-le}
+use Rattle.std.proofs.Common.{ℕ, zero, suc, ◌+◌, ◌*◌, ◌/◌, ◌%◌, ◌^◌, ◌≤◌, ◌<◌, max, ◌≡◌, refl, sym, ap, ◌∙◌, Bool, true, false, cond, List, [], ◌∷◌, ◌++◌, length, get_or, take, drop, ltb, arith, add-one, length-take, length-append, append_assoc}
+use Rattle.std.specs.Prelude.{decimal as printed}
+use Rattle.std.proofs.lemmas.Fmt.{decimal_digit, decimal_step}
+use native.Mathlib.Nat.{not-suc-le-zero}
+use borrow.Author.Tests.{lt-ltb, ltb-true, ltb-false}
+use lib.Seq.{take-suc, take_at}
 use Rattle.bench.specs.Texts.{glyph_of, digits, decimal, field, hex, bytes_text, last_field}
 
--- one text behind the other
-pub sets_append : (l a b : List ℕ) (i : ℕ) → sets (sets l i a) (i + length a) b ≡ sets l i (a ++ b)
-sets_append l [] b i = ap (λ (k : ℕ). sets l k b) (add-zero i)
-sets_append l (x ∷ a) b i =
-    let e : i + suc (length a) ≡ suc i + length a = omega arith in
-    ap (λ (k : ℕ). sets (sets (set l i x) (suc i) a) k b) e ∙ sets_append (set l i x) a b (suc i)
-
-pub put_length : (l m a : List ℕ) (i : ℕ) → m ≡ sets l i a → length m ≡ length l
-put_length l m a i q = ap length q ∙ length-sets l i a
-
 -- ---- digits
-pub digits_none : (most n : ℕ) → most ≡ 0 → digits most n ≡ []
-digits_none zero n e = refl
-digits_none (suc most) n e = absurd (omega arith)
+-- the least number with more digits
+abbrev tens : ℕ → ℕ
+tens zero = 1
+tens (suc most) = 10 * tens most
 
-pub digits_one : (most n : ℕ) → 0 < most → n < 10 → digits most n ≡ glyph_of n ∷ []
-digits_one zero n p h = absurd (not-suc-le-zero p)
-digits_one (suc most) n p h = rw (lt-ltb n 10 h)
+-- as std prints a number of 64 bits
+digits_printed : (most n : ℕ) → n < tens most → 0 < most → n < 2 ^ 64 → digits most n ≡ printed n
+unfolding glyph_of
+digits_printed zero n h p w = absurd (not-suc-le-zero p)
+digits_printed (suc most) n h p w = go (ltb n 10) refl (λ q b. digits_printed most (n / 10) b q (omega (arith, w)))
+  where
+    some : (k : ℕ) → k ≡ most → 10 ≤ n → 0 < most
+    some zero e t = absurd (omega (arith, h, ap tens e))
+    some (suc k) e t = omega arith
 
-pub digits_more : (most n : ℕ) → 0 < most → 10 ≤ n → digits most n ≡ digits (most - 1) (n / 10) ++ (glyph_of (n % 10) ∷ [])
-digits_more zero n p h = absurd (not-suc-le-zero p)
-digits_more (suc most) n p h =
-    let e : most ≡ suc most - 1 = omega arith in
-    rw (le-ltb n 10 h) (ap (λ (m : ℕ). digits m (n / 10) ++ (glyph_of (n % 10) ∷ [])) e)
+    go : (b : Bool) → ltb n 10 ≡ b → (0 < most → n / 10 < tens most → digits most (n / 10) ≡ printed (n / 10)) → digits (suc most) n ≡ printed n
+    go true e before = rw e (sym (decimal_digit n (ltb-true n 10 e)))
+    go false e before =
+        let t = ltb-false n 10 e in
+        let d : n % 10 < 10 = omega arith in
+        let r = before (some most refl t) (omega (arith, h)) in
+        rw (e, lt-ltb (n % 10) 10 d) (ap (λ (ds : List ℕ). ds ++ ((48 + n % 10) ∷ [])) r ∙ sym (decimal_step n t w))
+
+pub field_printed : (n : ℕ) → n < 2 ^ 64 → printed n ++ (32 ∷ []) ≡ field n
+unfolding decimal
+field_printed n w = ap (λ (ds : List ℕ). ds ++ (32 ∷ [])) (sym (digits_printed 20 n (omega (arith, w)) (omega arith) w))
 
 pub digits_length : (most n : ℕ) → length (digits most n) ≤ most
 digits_length zero n = omega arith
@@ -58,51 +56,24 @@ hex_length (x ∷ xs) = omega (arith, hex_length xs)
 pub hex_more : (bs : List ℕ) (i : ℕ) → i < length bs → hex (take (i + 1) bs) ≡ hex (take i bs) ++ (glyph_of (get_or bs i 0 / 16) ∷ glyph_of (get_or bs i 0 % 16) ∷ [])
 hex_more bs i h = rw (add-one, take-suc bs i 0 h) (hex_append (take i bs) (get_or bs i 0 ∷ []))
 
-pub hex_put : (l bs m : List ℕ) (at i x y : ℕ) → i < length bs → m ≡ sets l at (hex (take i bs)) → x ≡ glyph_of (get_or bs i 0 / 16) → y ≡ glyph_of (get_or bs i 0 % 16)
-    → set (set m (at + 2 * i) x) (at + 2 * i + 1) y ≡ sets l at (hex (take (i + 1) bs))
-hex_put l bs m at i x y h e p q =
-    let before = hex (take i bs) in
-    let n : length (hex (take i bs)) ≡ 2 * i = hex_length (take i bs) ∙ ap (λ (k : ℕ). 2 * k) (length-take-le i bs (omega arith)) in
-    let j : at + 2 * i ≡ at + length (hex (take i bs)) = omega arith in
-    let k : at + 2 * i + 1 ≡ suc (at + length (hex (take i bs))) = omega arith in
-    ap₂ (λ (a b : ℕ). set (set m a x) b y) j k
-    ∙ ap (λ (r : List ℕ). sets r (at + length before) (x ∷ y ∷ [])) e
-    ∙ sets_append l before (x ∷ y ∷ []) at
-    ∙ ap₂ (λ (a b : ℕ). sets l at (before ++ (a ∷ b ∷ []))) p q
-    ∙ ap (sets l at) (sym (hex_more bs i h))
+-- ---- a text behind what stands, and another behind that
+pub text_behind : (l a b : List ℕ) {m k t : List ℕ} → m ≡ l ++ a → k ≡ m ++ b → a ++ b ≡ t → k ≡ l ++ t
+text_behind l a b e f g = f ∙ ap (λ (r : List ℕ). r ++ b) e ∙ append_assoc l a b ∙ ap (λ (r : List ℕ). l ++ r) g
 
--- ---- a text behind another, and one byte behind a text, as code puts them
-pub text_behind : (l a b m : List ℕ) (i k : ℕ) → k ≡ i + length a → m ≡ sets l i a → (k + length b ≡ i + length (a ++ b)) × (sets m k b ≡ sets l i (a ++ b))
-text_behind l a b m i k e q = (omega (arith, length-append a b), ap₂ (λ (r : List ℕ) (j : ℕ). sets r j b) q e ∙ sets_append l a b i)
+pub length_behind : (l a : List ℕ) {m : List ℕ} → m ≡ l ++ a → length m ≡ length l + length a
+length_behind l a e = ap length e ∙ length-append l a
 
-pub byte_behind : (l a t m : List ℕ) (i k x : ℕ) → t ≡ a ++ (x ∷ []) → k ≡ i + length a → m ≡ sets l i a → (k + 1 ≡ i + length t) × (set m k x ≡ sets l i t)
-byte_behind l a t m i k x e d q =
-    let r = text_behind l a (x ∷ []) m i k d q in
-    (r.0 ∙ ap (λ (s : List ℕ). i + length s) (sym e), r.1 ∙ ap (sets l i) (sym e))
+pub hex_behind : (l bs : List ℕ) (i : ℕ) {m : List ℕ} → i ≤ length bs → m ≡ l ++ hex (take i bs) → length m ≡ length l + 2 * i
+hex_behind l bs i h e = omega (arith, length_behind l (hex (take i bs)) e, hex_length (take i bs), length-take i bs)
 
--- a text behind one that stands in front
-pub text_on : (l a b : List ℕ) {m m' : List ℕ} {k r : ℕ} → k ≡ length a → m ≡ sets l 0 a → r ≡ k + length b → m' ≡ sets m k b → (r ≡ length (a ++ b)) × (m' ≡ sets l 0 (a ++ b))
-text_on l a b {m} {m'} {k} {r} e q f p =
-    let d : k ≡ 0 + length a = omega arith in
-    let t = text_behind l a b m 0 k d q in
-    (omega (arith, t.0), p ∙ t.1)
-
--- what was put in front, before the rest of the line
-pub in_front_lem : (l a : List ℕ) {t m : List ℕ} {r : ℕ} → length a ≤ length l → a ≡ t → r ≡ length a → m ≡ sets l 0 a → (r ≡ length t) × (m ≡ t ++ drop (length t) l)
-in_front_lem l a {t} {m} {r} h e n q =
-    let fits : 0 + length a ≤ length l = omega arith in
-    let front = q ∙ sets-eq a l 0 fits ∙ ap (λ (k : ℕ). a ++ drop k l) (zero-add (length a)) in
-    (n ∙ ap length e, front ∙ ap (λ (x : List ℕ). x ++ drop (length x) l) e)
+pub hex_put : (l bs : List ℕ) (i x y : ℕ) {m k : List ℕ} → i < length bs → m ≡ l ++ hex (take i bs) → k ≡ m ++ (x ∷ y ∷ []) → x ≡ glyph_of (get_or bs i 0 / 16) → y ≡ glyph_of (get_or bs i 0 % 16)
+    → k ≡ l ++ hex (take (i + 1) bs)
+hex_put l bs i x y h e f p q = text_behind l (hex (take i bs)) (x ∷ y ∷ []) e f (rw (p, q) (sym (hex_more bs i h)))
 
 pub front_long : (l : List ℕ) (n : ℕ) {m : ℕ} {r : List ℕ} → m ≡ length l → r ≡ take n l → length r ≤ m
 front_long l n {m} {r} h e =
     let k : length r ≡ length (take n l) = ap length e in
     omega (arith, k, length-take n l)
-
-pub front_within : (t l : List ℕ) {m : List ℕ} {r : ℕ} → r ≡ length t → m ≡ t ++ drop (length t) l → r ≤ length m
-front_within t l {m} e q =
-    let n : length m ≡ length (t ++ drop (length t) l) = ap length q in
-    omega (arith, n, length-append t (drop (length t) l))
 
 -- ---- bytes written over blank ones, where it is done
 pub last_shown : (done : Bool) (bytes blank : List ℕ) (n : ℕ) → (done ≡ true → length bytes ≡ n) → last_field done (take n (cond done (bytes ++ drop (length bytes) blank) blank)) ≡ last_field done bytes

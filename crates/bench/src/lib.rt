@@ -1,8 +1,8 @@
 // What the programs SHEET and ROUTE say of their input: one line with the number, the place and what is given.
 #![tactic(auto)]
 
-ghost use Rattle.std.specs.Prelude.{◌≡◌, ◌++◌, ◌≤◌, length, drop};
-ghost use Rattle.std.proofs.lemmas.List.Edits.{sets};
+ghost use Rattle.std.specs.Prelude.{◌≡◌, ◌++◌, ◌+◌, ◌≤◌, length, drop};
+ghost use Rattle.arrayvec.specs.ArrayVec.{array_vec_len};
 ghost use Rattle.bench.specs.Lines.{answer_fields, line_by, line_of};
 ghost use Rattle.bench.specs.Routes.{route_line_by, route_line_of};
 
@@ -10,26 +10,38 @@ use answer::{number_of, place_of};
 use order::read_order;
 use part::{behind, first, front};
 use sheets::{MOST, length_of};
+use text::Line;
 
 mod part;
 mod text;
 
-fn put_answer(number: usize, place: usize, line: &mut [u8]) -> usize
-    requires { 42 ≤ length line.old }
-    ensures value { result ≡ length (answer_fields number place) }
-    ensures line_after { line.new ≡ sets line.old 0 (answer_fields number place) }
+fn put_answer(number: usize, place: usize, line: &mut Line)
+    requires { array_vec_len line.old + 42 ≤ 256 }
+    ensures { line.new.items ≡ line.old.items ++ answer_fields number place }
 {
-    let behind_number = text::put_field(number, line, 0);
-    text::put_field(place, line, behind_number)
+    text::put_field(number, line);
+    text::put_field(place, line);
 }
 
-fn put_line(number: usize, place: usize, sheet: &[u8], line: &mut [u8]) -> usize
-    requires { (length sheet.now ≤ 33) × (109 ≤ length line.old) }
-    ensures value { result ≡ length (line_by number place sheet.now) }
-    ensures line_after { line.new ≡ sets line.old 0 (line_by number place sheet.now) }
+fn line_by(number: usize, place: usize, sheet: &[u8]) -> Line
+    requires { length sheet.now ≤ 33 }
+    ensures { result.items ≡ line_by number place sheet.now }
 {
-    let behind_place = put_answer(number, place, line);
-    text::put_last(number == 0, sheet, line, behind_place)
+    let mut line = Line::new();
+    put_answer(number, place, &mut line);
+    text::put_last(number == 0, sheet, &mut line);
+    line
+}
+
+// Copies the line in front of the lent one and answers its length.
+fn write_front<const N: usize>(line: &Line, lent: &mut [u8; N]) -> usize
+    requires { array_vec_len line.now ≤ N }
+    ensures value { result ≡ length line.now.items }
+    ensures lent_after { lent.new ≡ line.now.items ++ drop (length line.now.items) lent.old }
+{
+    let bytes = line.as_slice();
+    lent[..bytes.len()].copy_from_slice(bytes);
+    bytes.len()
 }
 
 // Writes the line of an input of SHEET in front of the lent one and answers its length.
@@ -44,23 +56,19 @@ pub fn line_of(input: &[u8], line: &mut [u8; 128]) -> usize
     let o = read_order(order);
     let book = o.book;
     let shown = front(&sheet, length_of(book));
-    put_line(number_of(answer), place_of(answer), shown, line)
+    let made = line_by(number_of(answer), place_of(answer), shown);
+    write_front(&made, line)
 }
 
-fn put_route_line(
-    number: usize,
-    place: usize,
-    category: usize,
-    speeds: &[u8],
-    line: &mut [u8],
-) -> usize
-    requires { (length speeds.now ≤ 64) × (192 ≤ length line.old) }
-    ensures value { result ≡ length (route_line_by number place category speeds.now) }
-    ensures line_after { line.new ≡ sets line.old 0 (route_line_by number place category speeds.now) }
+fn route_line_by(number: usize, place: usize, category: usize, speeds: &[u8]) -> Line
+    requires { length speeds.now ≤ 64 }
+    ensures { result.items ≡ route_line_by number place category speeds.now }
 {
-    let behind_place = put_answer(number, place, line);
-    let behind_category = text::put_field(category, line, behind_place);
-    text::put_last(number == 0, speeds, line, behind_category)
+    let mut line = Line::new();
+    put_answer(number, place, &mut line);
+    text::put_field(category, &mut line);
+    text::put_last(number == 0, speeds, &mut line);
+    line
 }
 
 // Writes the line of an input of ROUTE in front of the lent one and answers its length.
@@ -75,11 +83,11 @@ pub fn route_line_of(input: &[u8], line: &mut [u8; 256]) -> usize
     let given = route::route_of_train(vehicles, orders, &mut speeds);
     let answer = given.answer;
     let shown = front(&speeds, orders.len() / 24);
-    put_route_line(
+    let made = route_line_by(
         number_of(answer),
         place_of(answer),
-        text::wide(given.granted),
+        usize::from(given.granted),
         shown,
-        line,
-    )
+    );
+    write_front(&made, line)
 }

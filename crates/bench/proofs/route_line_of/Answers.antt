@@ -1,31 +1,26 @@
 -- `bench::route_line_of` meets its contract: the parts of the input, the route that is answered, the line of it. Assumes nothing.
-use mathlib.Core.Path.{◌≡◌}
-use Prim.Native.Nat.{ℕ, ◌+◌, ◌*◌, ◌/◌}
-use mathlib.Core.Path.{refl, ap, ap₂, ◌∙◌}
-use mathlib.Core.List.{List}
-use native.Mathlib.Omega.{arith}
-use lib.ListN.{length, take, drop, replicate}
-use Rattle.bench.specs.Routes.{route_line_by}
-use Rattle.bench.proofs.Texts.{in_front_lem, front_long}
+use Rattle.std.proofs.Common.{ℕ, ◌+◌, ◌*◌, ◌/◌, List, ◌++◌, length, take, drop, replicate, ◌≡◌, refl, ap, ap₂, ◌∙◌, rules, arith}
+use Rattle.bench.proofs.Texts.{front_long}
 use Rattle.bench.proofs.Routes.{route_line_length, route_line_answer}
-use borrow.Author.Rules.{rules}
 use Rattle.bench.proofs.route_line_of.Goals as goal
+
+pub write_front-requires : goal.write_front-requires
+write_front-requires c =
+    let given = c.route_of_train-given in
+    let shown = c.front-shown in
+    let room : 64 ≡ length given.new.speeds = search rules in
+    let few = front_long given.new.speeds (length c.front-orders.result.now / 24) room shown.ensures in
+    omega (arith, ap length c.route_line_by-made.ensures, route_line_length c.number_of.result c.place_of.result c.from.result shown.result.now (λ _. few))
 
 pub returns : goal.returns
 returns c =
-    let a = c.args in
+    let input = c.args.input.now in
     let n = c.first-n.ensures.0 in
     let orders = c.front-orders in
     let train = c.front-vehicles in
-    let given = c.route_of_train-given in
-    let shown = c.front-shown in
-    let number = c.number_of in
-    let place = c.place_of in
-    let category = c.wide in
-    let v = train.ensures ∙ ap (take 4824) c.behind-2.ensures ∙ ap (λ (k : ℕ). take 4824 (drop (1 + 24 * k) a.input.now)) n in
+    let given = c.route_of_train-given.ensures in
+    let v = train.ensures ∙ ap (take 4824) c.behind-2.ensures ∙ ap (λ (k : ℕ). take 4824 (drop (1 + 24 * k) input)) n in
     let o = orders.ensures ∙ ap₂ (λ (k : ℕ) (bs : List ℕ). take (24 * k) bs) n c.behind.ensures in
-    let e = route_line_answer a.input.now train.result.now orders.result.now (replicate 64 0) refl v o given.ensures.value given.ensures.speeds_after number.ensures place.ensures category.ensures.0 shown.ensures in
-    let room : 64 ≡ length given.new.speeds = search rules in
-    let long = route_line_length number.result place.result category.result shown.result.now (λ _. front_long given.new.speeds (length orders.result.now / 24) room shown.ensures) in
-    let s = in_front_lem a.line.now (route_line_by number.result place.result category.result shown.result.now) (omega (arith, long)) e c.put_route_line.ensures.value c.put_route_line.ensures.line_after in
-    record { value = s.0; line_after = s.1 }
+    let e = route_line_answer input train.result.now orders.result.now (replicate 64 0) refl v o given.value given.speeds_after c.number_of.ensures c.place_of.ensures c.from.ensures c.front-shown.ensures in
+    let line = c.route_line_by-made.ensures ∙ e in
+    record { value = c.write_front.ensures.value ∙ ap length line; line_after = c.write_front.ensures.lent_after ∙ ap (λ (l : List ℕ). l ++ drop (length l) c.args.line.now) line }

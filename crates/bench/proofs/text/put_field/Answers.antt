@@ -1,13 +1,10 @@
--- `bench::text::put_field` meets its contract. Assumes nothing.
-use mathlib.Core.Path.{refl}
-use Rattle.bench.specs.Texts.{digits, decimal, field}
-use Rattle.bench.proofs.Texts.{byte_behind}
+-- `bench::text::put_field` meets its contract: the number as it is printed, and the space. Assumes nothing.
+use Rattle.std.proofs.Common.{ℕ, List, [], ◌∷◌, ◌++◌, ◌≡◌, ap, ◌∙◌, rules, arith}
+use Rattle.bench.proofs.Texts.{field_printed, text_behind}
 use Rattle.bench.proofs.text.put_field.Goals as goal
 
 pub returns : goal.returns
-unfolding decimal
 returns c =
     let a = c.args in
-    let f = c.put_digits-behind in
-    let g = byte_behind a.line.now (digits 20 a.n) (field a.n) f.new.line a.at f.result 32 refl f.ensures.value f.ensures.line_after in
-    record { value = g.0; line_after = g.1 }
+    let printed : c.try_extend_from_slice.new.self.items ≡ a.line.now.items ++ c.format.result.now = search rules in
+    text_behind _ _ _ printed c.push.ensures.items (ap (λ (ds : List ℕ). ds ++ (32 ∷ [])) c.format.ensures.text ∙ field_printed a.n (omega (arith, c.ranges.n)))
