@@ -22,8 +22,7 @@ use Rattle.categories.specs.declared.category.Category.{Category}
 use Rattle.rules.specs.Books.{RuleBook, broken_by, Sound}
 use Rattle.rules.specs.CrossBorder.{cross_border}
 use Rattle.rules.specs.Withdrawn.{former_book, longer_than_all}
-use Rattle.rules.specs.Grants.{best_of, granted_of, offers_from, MayBeGranted, Among}
-use Rattle.rules.specs.declared.grant.Best.{Best}
+use Rattle.rules.specs.Grants.{best_of, granted_of, granted_number, granted_speed as speed_granted, MayBeGranted, Among}
 use Rattle.rules.proofs.Demands as rules
 use Rattle.rules.proofs.Demands.{category_among}
 use Rattle.books.specs.Books.{book_of}
@@ -72,8 +71,8 @@ module _ (b : RuleBook) (f : Facts) where
     unbroken_or_breaks = routes.unbroken_or_breaks b f os c
 
   -- the one granted is the asked or a greater one that breaks no rule on any section, at its slowest section's speed
-  pub granted_stands : Sound b → (os : List Order) → 0 < (granted_on b f os).number → OfferedOn b f os (granted_on b f os).number (granted_on b f os).speed
-  granted_stands sound os p = routes.offered_may b f os (granted_on b f os).number (granted_on b f os).speed ((routes.is_granted b f os sound.rising).one p)
+  pub granted_stands : Sound b → (os : List Order) → 0 < granted_number (granted_on b f os) → OfferedOn b f os (granted_number (granted_on b f os)) (speed_granted (granted_on b f os))
+  granted_stands sound os p = routes.offered_may b f os (granted_number (granted_on b f os)) (speed_granted (granted_on b f os)) ((routes.is_granted b f os sound.rising).one p)
 
   -- ---- "the greatest of the slowest-section speeds, lowest number at a tie"
   -- on no section is a category slower than on its slowest
@@ -86,18 +85,18 @@ module _ (b : RuleBook) (f : Facts) where
 
   module _ (sound : Sound b) (os : List Order) where
     -- the speed granted is the granted category's on its slowest section
-    pub granted_speed : 0 < (granted_on b f os).number → (granted_on b f os).speed ≡ slowest_of (category_of (granted_on b f os).number b.rows) f os
+    pub granted_speed : 0 < granted_number (granted_on b f os) → speed_granted (granted_on b f os) ≡ slowest_of (category_of (granted_number (granted_on b f os)) b.rows) f os
     granted_speed p =
         let x = granted_stands sound os p in
         let own = ap (λ (n : ℕ). category_of n b.rows) x.number ∙ category_among b.rows x.category sound.rising x.among in
         x.speed ∙ ap (λ (c : Category). slowest_of c f os) (sym own)
 
     -- none that may be granted is faster
-    pub granted_is_fastest : (c : Category) → Among c b.rows → MayBeGrantedOn b f os c → slowest_of c f os ≤ (granted_on b f os).speed
+    pub granted_is_fastest : (c : Category) → Among c b.rows → MayBeGrantedOn b f os c → slowest_of c f os ≤ speed_granted (granted_on b f os)
     granted_is_fastest c a m = (routes.is_granted b f os sound.rising).fastest c.number (slowest_of c f os) (routes.may_offered b f os c a m)
 
     -- and none as fast has a lower number
-    pub lowest_at_a_tie : (c : Category) → Among c b.rows → MayBeGrantedOn b f os c → slowest_of c f os ≡ (granted_on b f os).speed → (granted_on b f os).number ≤ c.number
+    pub lowest_at_a_tie : (c : Category) → Among c b.rows → MayBeGrantedOn b f os c → slowest_of c f os ≡ speed_granted (granted_on b f os) → granted_number (granted_on b f os) ≤ c.number
     lowest_at_a_tie c a m e = (routes.is_granted b f os sound.rising).lowest c.number (slowest_of c f os) (routes.may_offered b f os c a m) e
 
   -- ---- "For each section write one byte, its speed in that category"
@@ -110,7 +109,7 @@ module _ (b : RuleBook) (f : Facts) where
 
   module _ (sound : Sound b) where
     -- and is the speed on the section's own sheet, where the section alone grants the same
-    pub alone_same : (n : ℕ) (o : Order) → (granted_of b f o).number ≡ n → section_speed b n f o ≡ (granted_of b f o).speed
+    pub alone_same : (n : ℕ) (o : Order) → granted_number (granted_of b f o) ≡ n → section_speed b n f o ≡ speed_granted (granted_of b f o)
     alone_same n o = speeds.alone_same b f sound.rising o (rules.no_speed_lem b f o sound) (rules.granted_stands b f o sound) n
 
     -- "or 0 when none is granted"
@@ -132,11 +131,11 @@ module _ (b : RuleBook) (f : Facts) where
 
   module _ (sound : Sound b) (os : List Order) where
     -- none is granted exactly when every category from the asked on breaks a rule on some section
-    pub none_granted : (granted_on b f os).number ≡ 0 → (c : Category) → Among c b.rows → asked_on os ≤ c.number → BreaksOn b f os c
+    pub none_granted : granted_number (granted_on b f os) ≡ 0 → (c : Category) → Among c b.rows → asked_on os ≤ c.number → BreaksOn b f os c
     none_granted e c a h =
         ⊎_elim (λ m. absurd ((routes.is_granted b f os sound.rising).none e c.number (slowest_of c f os) (routes.may_offered b f os c a m))) (λ some. some) (routes.may_or_breaks b f os c h)
 
-    pub all_broken : ((c : Category) → Among c b.rows → asked_on os ≤ c.number → BreaksOn b f os c) → (granted_on b f os).number ≡ 0
+    pub all_broken : ((c : Category) → Among c b.rows → asked_on os ≤ c.number → BreaksOn b f os c) → granted_number (granted_on b f os) ≡ 0
     all_broken h =
         rules.none_exactly (asked_on os) _ (granted_on b f os) (routes.is_granted b f os sound.rising)
         (λ n s w.
@@ -147,9 +146,9 @@ module _ (b : RuleBook) (f : Facts) where
   pub one_section : (o : Order) → granted_on b f (o ∷ []) ≡ granted_of b f o
   one_section o = routes.one_section b f o
 
-  pub one_section_speed : Sound b → (o : Order) → speeds_on b (granted_on b f (o ∷ [])).number f (o ∷ []) ≡ (granted_of b f o).speed ∷ []
+  pub one_section_speed : Sound b → (o : Order) → speeds_on b (granted_number (granted_on b f (o ∷ []))) f (o ∷ []) ≡ speed_granted (granted_of b f o) ∷ []
   one_section_speed sound o =
-      ap (λ (s : ℕ). s ∷ []) (alone_same b f sound (granted_on b f (o ∷ [])).number o (sym (ap (λ (g : Best). g.number) (one_section o))))
+      ap (λ (s : ℕ). s ∷ []) (alone_same b f sound (granted_number (granted_on b f (o ∷ []))) o (sym (ap granted_number (one_section o))))
 
 -- ---- "4 … for the first section with a field out of range or an asked category other than the first section's, with that section, counted from 0, as place", or "with another book than the first" (request Six)
 pub first_bad_section : (orders : List ℕ) (i : ℕ) → i < record_count orders → all (good_section (asked_in orders) (book_named_in orders)) (take i (records_of orders)) ≡ true
@@ -165,8 +164,8 @@ pub cross_section_kept : (asked : ℕ) (r : List ℕ) → good_section asked Cro
 cross_section_kept = asks.cross_kept
 
 -- ---- how it is worked out
--- what is granted is the best of the rules and speeds that are worked out for each category
-pub granted_of_offers : (b : Book) (f : Facts) (os : List Order) → best_of (asked_on os) (offers_from 1 (offers_on (book_of b) f os).broken (offers_on (book_of b) f os).speeds) ≡ granted_on (book_of b) f os
+-- what is granted is the best of what is worked out to be offered
+pub granted_of_offers : (b : Book) (f : Facts) (os : List Order) → best_of (asked_on os) (offers_on (book_of b) f os) ≡ granted_on (book_of b) f os
 granted_of_offers = gathers.granted_by
 
 -- ---- rule 46, withdrawn by request Five

@@ -1,24 +1,25 @@
 -- Bytes laid over those lent, one after the other, and the speeds of a route as such bytes. Assumes nothing.
-use Prim.Native.Nat.{ℕ, suc, ◌+◌, ◌*◌, ◌-◌, ◌≤◌, ◌<◌, min}
+use Prim.Native.Nat.{ℕ, suc, ◌+◌, ◌≤◌, ◌<◌, min}
 use native.Mathlib.Numerals.{add-one}
 use native.Mathlib.Decide.{dec_le}
 use native.Mathlib.Omega.{arith}
 use mathlib.Core.Path.{◌≡◌, sym, ap, ap₂, ◌∙◌}
 use mathlib.Core.List.{List, [], ◌∷◌, ◌++◌}
 use lib.ListN.{length, get_or, take, drop, set, drop_of_length-le, length-map, get_or-map}
+use Rattle.std.proofs.Common.{get_or-take}
 use lib.Seq.{take_all, take-suc, drop-cons, length-take-le, set_at, append_snoc}
-use Rattle.record.specs.Records.{record_count}
+use Rattle.record.specs.Records.{record_count, records_of}
 use Rattle.facts.specs.declared.Facts.{Facts}
 use Rattle.order.specs.declared.Book.{Book}
 use Rattle.order.specs.declared.Order.{Order}
-use Rattle.order.specs.Orders.{order_of, order_read}
+use Rattle.order.specs.Orders.{order_read}
 use Rattle.categories.specs.Categories.{speed_of, category_of, rows_of}
 use Rattle.categories.specs.declared.category.Category.{Category}
 use Rattle.books.specs.Books.{book_of}
 use Rattle.books.proofs.Demands.{book_rows}
 use Rattle.sections.specs.Routes.{section_speed, speeds_on}
 use Rattle.sections.specs.Sections.{sections_of, laid_over}
-use Rattle.sections.proofs.Places.{length_sections, section_read, section_at}
+use Rattle.sections.proofs.Places.{length_sections, section_at}
 
 module _ (bytes lent : List ℕ) where
   -- the first i are laid
@@ -55,11 +56,12 @@ module _ (b : Book) (n : ℕ) (f : Facts) (orders : List ℕ) where
   pub length_speeds : length (speeds_on (book_of b) n f (sections_of orders)) ≡ record_count orders
   length_speeds = length-map (sections_of orders) (section_speed (book_of b) n f) ∙ length_sections orders
 
-  -- what stands at i, as code works it out
-  module _ (i : ℕ) (within : i < record_count orders) (c : Category) (o : Order) where
-    pub speed_there : c ≡ category_of n (rows_of b) → o ≡ order_read (take (24 * i + 24 - 24 * i) (drop (24 * i) orders))
-        → speed_of c f o ≡ get_or (speeds_on (book_of b) n f (sections_of orders)) i (section_speed (book_of b) n f (order_of []))
+  -- what stands at i, as code works it out of the sections that it cuts off
+  module _ (i m : ℕ) (within : i < m) (sections : List (List ℕ)) (all : sections ≡ records_of orders) (c : Category) (o : Order) where
+    pub speed_there : c ≡ category_of n (rows_of b) → o ≡ order_read (get_or (take m sections) i [])
+        → speed_of c f o ≡ get_or (speeds_on (book_of b) n f (sections_of orders)) i (section_speed (book_of b) n f (order_read []))
     unfolding section_speed
     speed_there d e =
-        ap₂ (λ (c : Category) (o : Order). speed_of c f o) (d ∙ ap (category_of n) (sym (book_rows b))) (e ∙ section_read orders i within ∙ sym (section_at orders i within))
-        ∙ sym (get_or-map (section_speed (book_of b) n f) (sections_of orders) i (order_of []))
+        let read = e ∙ ap order_read (get_or-take m sections i [] within) ∙ ap (λ (rs : List (List ℕ)). order_read (get_or rs i [])) all ∙ sym (section_at orders i) in
+        ap₂ (λ (c : Category) (o : Order). speed_of c f o) (d ∙ ap (category_of n) (sym (book_rows b))) read
+        ∙ sym (get_or-map (section_speed (book_of b) n f) (sections_of orders) i (order_read []))

@@ -1,4 +1,5 @@
 pub mod Places
+pub mod Arrays
 pub mod Gathers
 pub mod Lays
 pub mod Unique

@@ -1,63 +1,83 @@
 -- The sections of a route as code reads them. Assumes nothing.
-use Prim.Native.Nat.{ℕ, suc, ◌*◌, ◌+◌, ◌-◌, ◌≤◌, ◌<◌}
+use Prim.Native.Nat.{ℕ, zero, suc, ◌+◌, ◌*◌, ◌≤◌, ◌<◌}
 use native.Mathlib.Omega.{arith}
-use mathlib.Core.Path.{◌≡◌, sym, ap, ap₂, ◌∙◌}
-use mathlib.Core.Bool.{true, false, ◌&&◌}
-use mathlib.Core.List.{List, [], ◌∷◌}
-use borrow.Author.Tests.{ne_eqb}
+use mathlib.Core.Path.{◌≡◌, refl, sym, ap, ap₂, ◌∙◌}
+use mathlib.Core.Bool.{Bool, true, false, ◌&&◌, cond}
+use mathlib.Core.List.{List, [], ◌∷◌, map}
+use denote.Enum.Bare.{sameb}
 use lib.Dec.{eqb}
-use lib.ListN.{length, get_or, take, drop, length-map, get_or-map}
-use lib.Seq.{drop-cons}
+use lib.ListN.{length, get_or, take, drop, length-map, length-drop, get_or-map}
+use lib.Seq.{length-take-le}
+use Rattle.std.specs.Simd.{first_chunks}
+use Rattle.std.specs.List.{prefix_len}
+use Rattle.lists.specs.Words.{leading}
 use Rattle.record.specs.Records.{records, record_count, records_of}
-use Rattle.record.proofs.Records.{record_at, part_record, record_length, records_at, length_records}
+use Rattle.record.proofs.Records.{length_records}
 use Rattle.order.specs.declared.Book.{Book}
+use Rattle.order.specs.declared.Book.TheVariants.{CrossBorder, Domestic}
+use Rattle.order.specs.contracts.Book.{the_type}
 use Rattle.order.specs.declared.Order.{Order}
 use Rattle.order.specs.Orders.{good_order, order_of, order_read}
 use Rattle.order.proofs.Demands.{read_good, read_whole}
 use Rattle.sections.specs.Routes.{first_on}
 use Rattle.sections.specs.Sections.{sections_of, same_book, good_section}
 
-pub length_sections : (orders : List ℕ) → length (sections_of orders) ≡ record_count orders
-length_sections orders = length-map (records_of orders) order_of ∙ length_records (record_count orders) orders
+-- the chunks that code reads are the records
+pub chunks_read : (n : ℕ) (bs : List ℕ) → first_chunks 24 n bs ≡ records n bs
+unfolding records
+chunks_read zero bs = refl
+chunks_read (suc n) bs = ap (λ (rs : List (List ℕ)). take 24 bs ∷ rs) (chunks_read n (drop 24 bs))
 
--- the section at place k
-module _ (orders : List ℕ) (k : ℕ) (within : k < record_count orders) where
-  -- as code reads its part of the orders
-  pub section_read : order_read (take (24 * k + 24 - 24 * k) (drop (24 * k) orders)) ≡ order_of (record_at orders k)
-  section_read = ap order_read (part_record orders k) ∙ read_whole (record_at orders k) (record_length orders k (omega arith))
+-- as many lead as std counts
+pub prefix_leads : {A : Type 0} (p : A → Bool) (xs : List A) → prefix_len p xs ≡ leading p xs
+prefix_leads p [] = refl
+prefix_leads p (x ∷ xs) =
+    let more : 1 + prefix_len p xs ≡ suc (leading p xs) = omega (arith, prefix_leads p xs) in
+    ap (λ (n : ℕ). cond (p x) n 0) more
 
-  pub section_at : get_or (sections_of orders) k (order_of []) ≡ order_of (record_at orders k)
-  section_at = get_or-map order_of (records_of orders) k [] ∙ ap order_of (records_at (record_count orders) orders k within)
+-- ---- a record is read as the order that it says, for it is whole
+reads_each : (n : ℕ) (bs : List ℕ) → 24 * n ≤ length bs → map order_read (records n bs) ≡ map order_of (records n bs)
+unfolding records
+reads_each zero bs h = refl
+reads_each (suc n) bs h =
+    let first : 24 ≤ length bs = omega arith in
+    let rest : 24 * n ≤ length (drop 24 bs) = omega (arith, length-drop 24 bs) in
+    ap₂ (λ (o : Order) (os : List Order). o ∷ os) (read_whole (take 24 bs) (length-take-le 24 bs first)) (reads_each n (drop 24 bs) rest)
 
-  -- it and those further on
-  pub sections_from : drop k (sections_of orders) ≡ order_of (record_at orders k) ∷ drop (suc k) (sections_of orders)
-  sections_from =
-      drop-cons (sections_of orders) k (order_of []) (omega (arith, length_sections orders))
-      ∙ ap (λ (o : Order). o ∷ drop (suc k) (sections_of orders)) section_at
+module _ (orders : List ℕ) where
+  pub sections_read : map order_read (records_of orders) ≡ sections_of orders
+  sections_read = reads_each (record_count orders) orders (omega arith)
 
--- ---- the first section, as code reads it
-pub first_none : (orders : List ℕ) → length orders < 24 → order_read orders ≡ first_on (sections_of orders)
-unfolding records order_read
-first_none orders h =
-    let n : record_count orders ≡ 0 = omega arith in
-    let other : length orders ≡ 24 → ⊥ = omega arith in
-    rw (ne_eqb (length orders) 24 other, n)
+  pub length_sections : length (sections_of orders) ≡ record_count orders
+  length_sections = length-map (records_of orders) order_of ∙ length_records (record_count orders) orders
 
-pub first_read : (orders : List ℕ) → 24 ≤ length orders → order_read (take 24 orders) ≡ first_on (sections_of orders)
-first_read orders h =
-    let first : 0 < record_count orders = omega arith in
-    section_read orders 0 first ∙ sym (ap first_on (sections_from orders 0 first))
+  -- the section at a place
+  pub section_at : (i : ℕ) → get_or (sections_of orders) i (order_read []) ≡ order_read (get_or (records_of orders) i [])
+  section_at i = ap (λ (os : List Order). get_or os i (order_read [])) (sym sections_read) ∙ get_or-map order_read (records_of orders) i []
 
--- ---- a good section: the part of the orders that code lends, and its tests
-pub section_judged : (orders : List ℕ) (k : ℕ) (first : Order) → first ≡ first_on (sections_of orders)
-    → good_section first.asked first.book (take (24 * k + 24 - 24 * k) (drop (24 * k) orders)) ≡ good_section (first_on (sections_of orders)).asked (first_on (sections_of orders)).book (record_at orders k)
-section_judged orders k first e = ap₂ (λ (o : Order) (r : List ℕ). good_section o.asked o.book r) e (part_record orders k)
+-- the first of those read; where there is none, the order of zeros
+pub none_read : (rs : List (List ℕ)) → length rs < 1 → order_read [] ≡ first_on (map order_read rs)
+unfolding order_read
+none_read [] h = refl
+none_read (r ∷ rs) h = absurd (omega arith)
+
+pub first_read : (rs : List (List ℕ)) → 1 ≤ length rs → order_read (get_or rs 0 []) ≡ first_on (map order_read rs)
+first_read [] h = absurd (omega arith)
+first_read (r ∷ rs) h = refl
+
+-- ---- a good section
+-- books are told apart as code tells them
+same_derived : (a b : Book) → sameb the_type a b ≡ same_book a b
+same_derived CrossBorder CrossBorder = refl
+same_derived CrossBorder Domestic = refl
+same_derived Domestic CrossBorder = refl
+same_derived Domestic Domestic = refl
 
 module _ (asked : ℕ) (book : Book) (r : List ℕ) where
   pub section_bad : good_order r ≡ false → false ≡ good_section asked book r
   unfolding good_section
   section_bad e = rw e
 
-  pub section_good : good_order r ≡ true → (eqb (order_read r).asked asked && same_book (order_read r).book book) ≡ good_section asked book r
+  pub section_good : good_order r ≡ true → (eqb (order_read r).asked asked && sameb the_type (order_read r).book book) ≡ good_section asked book r
   unfolding good_section
-  section_good e = rw (read_good r e, e)
+  section_good e = rw (read_good r e, e, same_derived (order_of r).book book)

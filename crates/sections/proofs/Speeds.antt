@@ -16,7 +16,7 @@ use Rattle.categories.specs.Categories.{speed_of, category_of}
 use Rattle.categories.specs.declared.category.Category.{Category}
 use Rattle.categories.proofs.Demands.{own_speed_most}
 use Rattle.rules.specs.Books.{RuleBook, Rise}
-use Rattle.rules.specs.Grants.{granted_of, Offered}
+use Rattle.rules.specs.Grants.{granted_of, granted_number, granted_speed, Offered}
 use Rattle.rules.proofs.Demands.{category_among, category_none}
 use Rattle.sections.specs.Routes.{slowest_of, section_speed, speeds_on, Somewhere}
 
@@ -69,9 +69,9 @@ module _ (b : RuleBook) (f : Facts) where
 
     -- the granted one's own, where the section alone grants that number
     pub alone_same : (o : Order)
-        → ((granted_of b f o).number ≡ 0 → (granted_of b f o).speed ≡ 0)
-        → (0 < (granted_of b f o).number → Offered b f o (granted_of b f o).number (granted_of b f o).speed)
-        → (n : ℕ) → (granted_of b f o).number ≡ n → section_speed b n f o ≡ (granted_of b f o).speed
+        → (granted_number (granted_of b f o) ≡ 0 → granted_speed (granted_of b f o) ≡ 0)
+        → (0 < granted_number (granted_of b f o) → Offered b f o (granted_number (granted_of b f o)) (granted_speed (granted_of b f o)))
+        → (n : ℕ) → granted_number (granted_of b f o) ≡ n → section_speed b n f o ≡ granted_speed (granted_of b f o)
     alone_same o none one zero e = no_speed_lem o ∙ sym (none e)
     alone_same o none one (suc n) e =
-        ap (λ (m : ℕ). section_speed b m f o) (sym e) ∙ category_speed (granted_of b f o).number o (granted_of b f o).speed (one (omega arith))
+        ap (λ (m : ℕ). section_speed b m f o) (sym e) ∙ category_speed (granted_number (granted_of b f o)) o (granted_speed (granted_of b f o)) (one (omega arith))

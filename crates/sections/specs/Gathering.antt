@@ -4,20 +4,27 @@ use mathlib.Core.List.{List, map, zip_with}
 use Rattle.lists.specs.Words.{◌is◌}
 use Rattle.facts.specs.declared.Facts.{Facts}
 use Rattle.order.specs.declared.Order.{Order}
+use Rattle.categories.specs.declared.category.Category.{Category}
 use Rattle.rules.specs.Books.{RuleBook}
-use Rattle.rules.specs.Grants.{six_of, absent_rule}
-use Rattle.rules.specs.declared.grant.Decision.{Decision}
-use Rattle.sections.specs.Routes.{slowest_of, broken_on}
-use Rattle.sections.specs.declared.grant.Offers.{Offers}
+use Rattle.rules.specs.Grants.{offer, absent, six_of}
+use Rattle.rules.specs.declared.grant.Offer.{Offer}
+use Rattle.sections.specs.Routes.{route_offer}
 
--- of each category the rule broken on a route and its speed there; six places, as decided
-unfoldable pub offers_on : RuleBook → Facts → List Order → Offers
-offers_on b f os = record { broken = six_of absent_rule (map (λ c. broken_on b c f os) b.rows); speeds = six_of 0 (map (λ c. slowest_of c f os) b.rows) }
+-- each category as it is offered for a route; six places, as decided
+unfoldable pub offers_on : RuleBook → Facts → List Order → List Offer
+offers_on b f os = six_of (map (route_offer b f os) b.rows)
+
+-- a category before any section, where there is one of the number
+abbrev pub unbroken : Category → Offer
+unbroken c = cond (c.number is 0) absent (offer c.number c.speed 0)
 
 -- a rule that is broken here, or the one that is broken further on
 abbrev pub first_rule : ℕ → ℕ → ℕ
 first_rule here further = cond (here is 0) further here
 
--- a section in front of those further on: of each category the first rule broken, and the lesser speed
-unfoldable pub in_front : Decision → Offers → Offers
-in_front here further = record { broken = zip_with first_rule here.broken further.broken; speeds = zip_with min here.speeds further.speeds }
+-- a category on a section in front of those further on: the first rule broken, and the lesser speed
+abbrev pub slower : Offer → Offer → Offer
+slower here further = offer here.number (min here.speed further.speed) (first_rule here.broken further.broken)
+
+unfoldable pub in_front : List Offer → List Offer → List Offer
+in_front here further = zip_with slower here further

@@ -1,5 +1,5 @@
 -- Request One, "A sheet for the whole route": demand 2 over every section, of any rule book.
-use Rattle.std.specs.Prelude.{ℕ, ◌≤◌, ◌≡◌, List, [], ◌∷◌, map, ◌⊎◌}
+use Rattle.std.specs.Prelude.{ℕ, ◌≤◌, ◌≡◌, Option, List, [], ◌∷◌, map, ◌⊎◌}
 use Rattle.lists.specs.Words.{Every}
 use Rattle.lists.specs.Figures.{least}
 use Rattle.facts.specs.declared.Facts.{Facts}
@@ -39,7 +39,7 @@ unfoldable pub route_offer : RuleBook → Facts → List Order → Category → 
 route_offer b f os c = offer c.number (slowest_of c f os) (broken_on b c f os)
 
 -- "the greatest of the slowest-section speeds, lowest number at a tie": granted as for a sheet
-unfoldable pub granted_on : RuleBook → Facts → List Order → Best
+unfoldable pub granted_on : RuleBook → Facts → List Order → Option Best
 granted_on b f os = best_of (asked_on os) (map (route_offer b f os) b.rows)
 
 -- "for each section one byte, its speed in that category": the category of the number n; 0 has no category, and no speed

@@ -1,30 +1,31 @@
--- `sections::grant::offers_on` meets its contract: `all` holds what is offered from section `k` on. Assumes nothing.
-use Prim.Native.Nat.{ℕ, suc, ◌-◌, ◌<◌}
-use native.Mathlib.Omega.{arith}
+-- `sections::grant::offers_on` meets its contract: the sections left, before what is offered behind them, make all. Assumes nothing.
+use Rattle.std.proofs.Common.{rules}
 use mathlib.Core.Path.{◌≡◌, ap, ◌∙◌}
-use lib.ListN.{drop}
-use Rattle.record.specs.Records.{record_count}
+use mathlib.Core.List.{List}
+use Rattle.rules.specs.declared.grant.Offer.{Offer}
+use Rattle.record.specs.Records.{records_of}
 use Rattle.rules.specs.Grants.{decision_of}
+use Rattle.rules.specs.declared.grant.Decision.{Decision}
 use Rattle.books.specs.Books.{book_of}
-use Rattle.sections.specs.Gathering.{offers_on}
-use Rattle.sections.specs.Sections.{sections_of}
-use Rattle.sections.proofs.Gathers.{offers_none, offers_from_lem}
+use Rattle.sections.specs.Gathering.{in_front}
+use Rattle.sections.proofs.Gathers.{with_rest, all_left, one_less, none_left}
 use Rattle.sections.proofs.grant.offers_on.Goals as goal
 
-pub loop-k-init : goal.loop-k-init
-loop-k-init c =
-    let a = c.args in
-    (omega arith, c.on_no_section-all.ensures a.f ∙ offers_none a.book a.f a.orders.now)
+pub loop-section-init : goal.loop-section-init
+loop-section-init c =
+    let all : c.into_iter-section-iterator.result.iter.rest.now ≡ records_of c.args.orders.now = search rules in
+    all_left c.args.book c.args.f c.args.orders.now _ _ (c.on_no_section-offers.ensures c.args.f) all
 
-pub loop-k-preserved : goal.loop-k-preserved
-loop-k-preserved c =
-    let a = c.args in
-    let b = a.book in
-    let f = a.f in
-    let o = a.orders.now in
-    let k = c.loop-k.k - 1 in
-    let next : c.loop-k.k ≡ suc (c.loop-k.k - 1) = omega arith in
-    let within : c.loop-k.k - 1 < record_count o = omega arith in
-    let here = c.decide.ensures ∙ ap (decision_of (book_of b) f) c.read_order-o.ensures in
-    let further = c.loop-k.invariant.1 ∙ ap (λ (j : ℕ). offers_on (book_of b) f (drop j (sections_of o))) next in
-    (omega arith, c.with_section-all.ensures ∙ offers_from_lem b f o k within _ _ here further)
+pub loop-section-preserved : goal.loop-section-preserved
+loop-section-preserved c =
+    let b = c.args.book in
+    let f = c.args.f in
+    let offers = c.loop-section.offers in
+    let front = c.next.new.self.iter.rest.now in
+    let here = c.decide-here.ensures ∙ ap (decision_of (book_of b) f) c.read_order.ensures in
+    ap (λ (x : List Offer). with_rest b f x front) (c.in_front-with_it.ensures ∙ ap (λ (d : Decision). in_front d.offers offers) here)
+    ∙ one_less b f offers _ front c.in-Some.section.now c.in-Some.ensures.steps
+    ∙ c.loop-section.invariant
+
+pub returns : goal.returns
+returns c = none_left c.args.book c.args.f c.loop-section.offers _ c.in-None.ensures.steps.0 ∙ c.loop-section.invariant

@@ -1,23 +1,14 @@
--- `sections::grant::on_no_section` meets its contract, category by category, in each book. Assumes nothing.
-use mathlib.Core.Path.{sym, ap, ◌∙◌}
-use mathlib.Core.List.{[], ◌∷◌}
-use Rattle.sections.proofs.Gathers.{sixth_in, offers_start}
+-- `sections::grant::on_no_section` meets its contract: each category alike, in each book. Assumes nothing.
+use Prim.Native.Nat.{ℕ}
+use mathlib.Core.Path.{refl, ◌∙◌}
+use Rattle.std.proofs.Common.{rules, tests}
+use Rattle.categories.specs.Categories.{category_of, rows_of}
+use Rattle.sections.specs.Gathering.{unbroken}
+use Rattle.sections.proofs.Arrays.{array_map}
+use Rattle.sections.proofs.Gathers.{offers_start}
 use Rattle.sections.proofs.grant.on_no_section.Goals as goal
 
-pub returns-in-CrossBorder : goal.returns-in-CrossBorder
-returns-in-CrossBorder c f =
-    (λ i.
-    record {
-      broken = 0 ∷ 0 ∷ 0 ∷ 0 ∷ 0 ∷ ap sixth_in (sym c.in-CrossBorder.is) i ∷ [];
-      speeds = (c.category_of-c1.ensures i).speed ∷ (c.category_of-c2.ensures i).speed ∷ (c.category_of-c3.ensures i).speed ∷ (c.category_of-c4.ensures i).speed ∷ (c.category_of-c5.ensures i).speed ∷ (c.category_of-c6.ensures i).speed ∷ [];
-    })
-    ∙ offers_start c.args.book f
-
-pub returns-in-Domestic : goal.returns-in-Domestic
-returns-in-Domestic c f =
-    (λ i.
-    record {
-      broken = 0 ∷ 0 ∷ 0 ∷ 0 ∷ 0 ∷ ap sixth_in (sym c.in-Domestic.is) i ∷ [];
-      speeds = (c.category_of-c1.ensures i).speed ∷ (c.category_of-c2.ensures i).speed ∷ (c.category_of-c3.ensures i).speed ∷ (c.category_of-c4.ensures i).speed ∷ (c.category_of-c5.ensures i).speed ∷ (c.category_of-c6.ensures i).speed ∷ [];
-    })
-    ∙ offers_start c.args.book f
+pub returns : goal.returns
+returns c f =
+    let b = c.args.book in
+    array_map c.map.ensures.items (λ (n : ℕ). unbroken (category_of n (rows_of b))) (λ x y q k. search (rules, tests)) 0 refl ∙ offers_start b f

@@ -1,5 +1,4 @@
 -- `sections::grant::put_speeds` meets its contract: the first `i` speeds are laid. Assumes nothing.
-use Prim.Native.Nat.{◌-◌, ◌≤◌}
 use mathlib.Core.Path.{◌≡◌}
 use lib.ListN.{length}
 use Rattle.books.specs.Books.{book_of}
@@ -10,7 +9,4 @@ use Rattle.sections.proofs.grant.put_speeds.Given as goal
 
 abbrev pub invariant-loop-i : goal.invariant-loop-i
 invariant-loop-i l =
-    (l.i ≤ l.n) × (l.speeds ≡ laid_to (speeds_on (book_of (book_named_in l.orders)) l.number l.f (sections_of l.orders)) l.initial.speeds l.i) × (length l.speeds ≡ length l.initial.speeds)
-
-abbrev pub decreases-loop-i : goal.decreases-loop-i
-decreases-loop-i l = l.n - l.i
+    (l.speeds ≡ laid_to (speeds_on (book_of (book_named_in l.orders)) l.number l.f (sections_of l.orders)) l.initial.speeds l.i) × (length l.speeds ≡ length l.initial.speeds)

@@ -2,8 +2,9 @@
 use lib.Dec.{eqb}
 use mathlib.Core.Path.{sym, ap, ◌∙◌}
 use mathlib.Core.Bool.{Bool, ◌&&◌}
+use denote.Enum.Bare.{sameb}
 use Rattle.order.specs.declared.Order.{Order}
-use Rattle.sections.specs.Sections.{same_book}
+use Rattle.order.specs.contracts.Book.{the_type}
 use Rattle.sections.proofs.Places.{section_bad, section_good}
 use Rattle.sections.proofs.section.is_good_section.Goals as goal
 
@@ -12,7 +13,7 @@ returns-then-not-is_good_order c = section_bad _ _ _ (sym c.is_good_order.ensure
 
 pub returns : goal.returns
 returns c =
-    let a = c.args in
-    ap (λ (t : Bool). eqb c.read_order-o.result.asked a.asked && t) c.is_same_book.ensures
-    ∙ ap (λ (o : Order). eqb o.asked a.asked && same_book o.book a.book) c.read_order-o.ensures
-    ∙ section_good a.asked a.book _ (sym c.is_good_order.ensures ∙ c.if-not-is_good_order.false)
+    let first = c.args.first in
+    ap (λ (t : Bool). eqb c.read_order-o.result.asked first.asked && t) c.eq.ensures
+    ∙ ap (λ (o : Order). eqb o.asked first.asked && sameb the_type o.book first.book) c.read_order-o.ensures
+    ∙ section_good first.asked first.book _ (sym c.is_good_order.ensures ∙ c.if-not-is_good_order.false)

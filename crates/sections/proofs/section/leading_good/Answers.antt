@@ -1,32 +1,21 @@
--- `sections::section::leading_good` meets its contract: the sections before `k` are good. Assumes nothing.
-use native.Mathlib.Omega.{arith}
-use mathlib.Core.Path.{◌≡◌, refl, sym, ◌∙◌}
-use Rattle.lists.specs.Words.{all}
-use Rattle.record.specs.Records.{record_count, records}
-use Rattle.record.proofs.Vehicles.{passing_more, passing_ends, passing_whole}
-use Rattle.sections.specs.Sections.{asked_in, book_named_in, good_section}
-use Rattle.sections.proofs.Places.{section_judged}
+-- `sections::section::leading_good` meets its contract: as many are counted as lead. Assumes nothing.
+use Rattle.std.proofs.Common.{ap₂, ◌∙◌, rules, tests, ℕ, List}
+use Rattle.std.proofs.lemmas.Iterator.{YieldsList-from_slice}
+use Rattle.std.proofs.lemmas.Iterator.Search.{YieldsList-from_take_while}
+use Rattle.std.proofs.lemmas.Iterator.Consumers.{count_from_yields_List}
+use Rattle.std.proofs.lemmas.List.Folds.{length-prefix_len}
+use Rattle.lists.specs.Words.{leading}
+use Rattle.order.specs.declared.Order.{Order}
+use Rattle.sections.specs.Sections.{good_section}
+use Rattle.sections.proofs.Places.{prefix_leads}
 use Rattle.sections.proofs.section.leading_good.Goals as goal
-
-pub loop-k-init : goal.loop-k-init
-unfolding all records
-loop-k-init c = (omega arith, refl)
-
-pub returns-then-not-is_good_section : goal.returns-then-not-is_good_section
-returns-then-not-is_good_section c =
-    let o = c.args.orders.now in
-    let judged = c.is_good_section.ensures ∙ section_judged o c.loop-k.k c.first_section-first.result c.first_section-first.ensures in
-    passing_ends (good_section (asked_in o) (book_named_in o)) o _ c.loop-k.k c.loop-k-test.true c.loop-k.invariant.1 (sym judged ∙ c.if-not-is_good_section.true)
-
-pub loop-k-preserved : goal.loop-k-preserved
-loop-k-preserved c =
-    let o = c.args.orders.now in
-    let judged = c.is_good_section.ensures ∙ section_judged o c.loop-k.k c.first_section-first.result c.first_section-first.ensures in
-    (omega arith, passing_more (good_section (asked_in o) (book_named_in o)) o c.loop-k.k c.loop-k.invariant.1 (sym judged ∙ c.if-not-is_good_section.false))
 
 pub returns : goal.returns
 returns c =
-    let o = c.args.orders.now in
-    let end : c.loop-k.k ≡ record_count o = omega arith in
-    let t = c.loop-k.invariant.1 in
-    passing_whole (good_section (asked_in o) (book_named_in o)) o _ (rw end at t)
+    let first = c.first_section-first.result in
+    let sections = c.sections_in.result.now in
+    let good = good_section first.asked first.book in
+    count_from_yields_List c.take_while.result _ c.count.ensures.ran (YieldsList-from_take_while _ good (YieldsList-from_slice sections cc) c.take_while.ensures.closure c.take_while.ensures.done (λ x b q k. search (rules, tests)))
+    ∙ length-prefix_len good sections
+    ∙ prefix_leads good sections
+    ∙ ap₂ (λ (o : Order) (rs : List (List ℕ)). leading (good_section o.asked o.book) rs) c.first_section-first.ensures c.sections_in.ensures
