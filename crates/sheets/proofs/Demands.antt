@@ -20,7 +20,7 @@ use Rattle.categories.specs.declared.category.Weigh.{Weigh}
 use Rattle.rules.specs.Rules.{first_broken, is_short}
 use Rattle.rules.specs.Books.{RuleBook, rules_of, broken_by}
 use Rattle.rules.specs.CrossBorder.{cross_border}
-use Rattle.rules.specs.Grants.{granted_of, decision_of}
+use Rattle.rules.specs.Grants.{granted_of, granted_number, granted_speed, decision_of}
 use Rattle.rules.specs.Withdrawn.{former_book, longer_than_all}
 use Rattle.domestic.specs.Rules.{domestic}
 use Rattle.books.specs.Books.{book_of}
@@ -77,11 +77,11 @@ module _ (f : Facts) (o : Order) where
   unfolding sheet_of figures_of
   asked_byte b = refl
 
-  pub granted_byte : (b : RuleBook) → get_or (sheet_of b f o) 1 0 ≡ (granted_of b f o).number
+  pub granted_byte : (b : RuleBook) → get_or (sheet_of b f o) 1 0 ≡ granted_number (granted_of b f o)
   unfolding sheet_of figures_of decision_of
   granted_byte b = refl
 
-  pub speed_byte : (b : RuleBook) → get_or (sheet_of b f o) 2 0 ≡ (granted_of b f o).speed
+  pub speed_byte : (b : RuleBook) → get_or (sheet_of b f o) 2 0 ≡ granted_speed (granted_of b f o)
   unfolding sheet_of figures_of decision_of
   speed_byte b = refl
 

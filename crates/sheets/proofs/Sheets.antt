@@ -21,28 +21,33 @@ use Rattle.categories.specs.declared.category.Weigh.TheVariants.{ThreeQuarters, 
 use Rattle.rules.specs.Rules.{first_broken, terms_of}
 use Rattle.rules.specs.Books.{broken_by}
 use Rattle.rules.specs.CrossBorder.{common_rules, own_rules, cross_border}
-use Rattle.rules.specs.Grants.{decision_of}
+use Rattle.rules.specs.Grants.{offer, offer_of, decision_of}
 use Rattle.rules.specs.Withdrawn.{former_book, longer_than_all}
 use Rattle.rules.specs.declared.grant.Decision.{Decision}
 use Rattle.rules.proofs.Demands.{first_up_to, broken_kept, decision_kept}
 use Rattle.domestic.specs.Rules.{domestic}
 use Rattle.books.specs.Books.{book_of}
 use Rattle.books.proofs.Demands.{book_rows}
-use Rattle.sheets.specs.Sheets.{margin_at, asked_of, figures_of, tail_bytes, sheet_bytes, sheet_of, in_most, head_bytes, common_by, tail_at, laid}
+use Rattle.sheets.specs.Sheets.{sheet_length, margin_at, asked_of, figures_of, tail_bytes, sheet_bytes, sheet_of, in_most, head_bytes, common_by, laid}
 use Rattle.sheets.specs.declared.Sheet.{Sheet}
 
 -- the first common rule broken is what category 1 breaks, where that is at most 23
-pub common_there : (b : Book) (f : Facts) (o : Order) → common_by b (get_or (decision_of (book_of b) f o).broken 0 0) ≡ first_broken ((book_of b).common f)
-unfolding decision_of book_of cross_border domestic broken_by
+pub common_there : (b : Book) (f : Facts) (o : Order) → common_by b (get_or (decision_of (book_of b) f o).offers 0 (offer 0 0 0)).broken ≡ first_broken ((book_of b).common f)
+unfolding decision_of offer_of book_of cross_border domestic broken_by
 common_there CrossBorder f o = first_up_to 23 (common_rules f) (own_rules (terms_of (get_or cross_rows 0 none) f o) f) (omega arith) (omega arith)
 common_there Domestic f o = refl
 
 -- the bytes as they are laid are the sheet's
 pub laid_sheet : (b : Book) (f : Facts) (o : Order)
-    → laid (head_bytes (figures_of (book_of b) f o)) (tail_bytes (figures_of (book_of b) f o)) (tail_at b) ≡ in_most (sheet_of (book_of b) f o)
-unfolding sheet_of figures_of decision_of book_of cross_border domestic
+    → laid (head_bytes (figures_of (book_of b) f o)) (tail_bytes (figures_of (book_of b) f o)) (sheet_length b) ≡ in_most (sheet_of (book_of b) f o)
+unfolding sheet_of figures_of decision_of offer_of book_of cross_border domestic
 laid_sheet CrossBorder f o = refl
 laid_sheet Domestic f o = refl
+
+-- a sheet ends where a tail over the head can, which has ten bytes
+pub length_within : (b : Book) → (23 ≤ sheet_length b) × (sheet_length b ≤ 33)
+length_within CrossBorder = omega arith
+length_within Domestic = omega arith
 
 -- where the margin stands
 pub margin_bytes_there : (b : Book) (f : Facts) (o : Order) → take 3 (drop (margin_at b) (sheet_of (book_of b) f o)) ≡ bytes_of (tonnes_of (margin_for (asked_of (book_of b) o) f o))

@@ -1,7 +1,11 @@
 -- Document 01, "Tried on the bench": the trains of cases A to H, and what each case is to show.
-use Rattle.std.specs.Prelude.{ℕ, List, [], ◌∷◌, ◌++◌, ℤ, pos, neg_ℤ, take, drop, get_or, replicate}
+use Rattle.std.specs.Prelude.{ℕ, true, false, List, [], ◌∷◌, ◌++◌, ℤ, pos, neg_ℤ, take, drop, get_or, replicate}
 use Rattle.lists.specs.Numbers.{four_bytes, two_bytes}
 use Rattle.record.specs.Vehicles.{vehicles}
+use Rattle.record.specs.declared.vehicle.Kind.{Kind}
+use Rattle.record.specs.declared.vehicle.Kind.TheVariants.{Wagon, HauledEngine, WorkingEngine}
+use Rattle.record.specs.declared.vehicle.Setting.{Setting}
+use Rattle.record.specs.declared.vehicle.Setting.TheVariants.{Isolated, M, V, R}
 use Rattle.record.specs.declared.vehicle.Vehicle.{Vehicle}
 use Rattle.facts.specs.Facts.{facts_of}
 use Rattle.facts.specs.declared.Facts.{Facts}
@@ -60,7 +64,7 @@ abbrev asking : ℕ → Order
 asking asked = record { book = CrossBorder; limits = 0 ∷ replicate 5 100; asked = asked; german = 0; coupling = 100000; admissible = 100000 }
 
 -- 4 axles, joined, other flags 0; the number, here 18 for each, is read by no rule and stands on no sheet
-abbrev vehicle : ℕ → ℕ → ℕ → ℕ → ℕ → ℕ → ℕ → Vehicle
+abbrev vehicle : Kind → ℕ → ℕ → ℕ → ℕ → Setting → ℕ → Vehicle
 vehicle kind mass v m length setting speed =
     record {
       number = 18;
@@ -71,33 +75,33 @@ vehicle kind mass v m length setting speed =
       axles = 4;
       kind = kind;
       setting = setting;
-      joined = 1;
+      joined = true;
       speed = speed;
-      matrossow = 0;
-      dload = 0;
+      matrossow = false;
+      dload = false;
     }
 
 -- behind A's engine: mass 900, V 1,000, M 800, length 200, set V, speed 140
 abbrev behind : List Vehicle → Facts
-behind hauled = facts_of (vehicle 2 900 1000 800 200 2 140 ∷ hauled)
+behind hauled = facts_of (vehicle WorkingEngine 900 1000 800 200 V 140 ∷ hauled)
 
 -- mass 600, M 500, length 150, set V, speed 120
 abbrev wagon_a : ℕ → Vehicle
-wagon_a v = vehicle 0 600 v 500 150 2 120
+wagon_a v = vehicle Wagon 600 v 500 150 V 120
 
 -- E by its length and setting, F and G by its mass, H by its setting and mass
-abbrev wagon_e : ℕ → ℕ → Vehicle
-wagon_e length setting = vehicle 0 600 500 500 length setting 120
+abbrev wagon_e : ℕ → Setting → Vehicle
+wagon_e length setting = vehicle Wagon 600 500 500 length setting 120
 
 -- a hauled engine, A's set to V, by its length
 abbrev hauled_engine_e : ℕ → Vehicle
-hauled_engine_e length = vehicle 1 900 1000 800 length 2 140
+hauled_engine_e length = vehicle HauledEngine 900 1000 800 length V 140
 
 abbrev wagon_f : ℕ → Vehicle
-wagon_f mass = vehicle 0 mass 2500 500 150 2 120
+wagon_f mass = vehicle Wagon mass 2500 500 150 V 120
 
-abbrev wagon_h : ℕ → ℕ → Vehicle
-wagon_h mass setting = vehicle 0 mass 500 500 150 setting 120
+abbrev wagon_h : ℕ → Setting → Vehicle
+wagon_h mass setting = vehicle Wagon mass 500 500 150 setting 120
 
 -- what a case shows: bytes, a margin, or a number
 pub data Shown : Type 0 where
@@ -121,7 +125,7 @@ k hauled = number (deduction_of (category 1).weigh (behind hauled))
 
 -- forty isolated metres, behind the first hauled vehicle
 abbrev isolated_in : List Vehicle → List Vehicle
-isolated_in hauled = take 1 hauled ++ (wagon_e 400 0 ∷ drop 1 hauled)
+isolated_in hauled = take 1 hauled ++ (wagon_e 400 Isolated ∷ drop 1 hauled)
 
 -- k of a train, and of the same with the isolated metres in it
 abbrev k_both : List Vehicle → List Shown
@@ -134,7 +138,7 @@ abbrev byte14 : ℕ → List Vehicle → Shown
 byte14 asked hauled = number (get_or (sheet_of cross_border (behind hauled) (asking asked)) 14 0)
 
 abbrev isolated : ℕ → List Vehicle
-isolated n = wagon_h 600 1 ∷ replicate n (wagon_h 100 0) ++ (wagon_h 600 1 ∷ [])
+isolated n = wagon_h 600 M ∷ replicate n (wagon_h 100 Isolated) ++ (wagon_h 600 M ∷ [])
 
 abbrev pub shown : List Shown
 shown =
@@ -146,15 +150,15 @@ shown =
     ++ margins (replicate 9 (wagon_a 431) ++ replicate 1 (wagon_a 432))
     ++ margins (replicate 7 (wagon_a 431) ++ replicate 3 (wagon_a 432))
     -- E: k at 5,000, 5,001, 5,200, 5,201 and 7,000 set to V, each also with forty isolated metres (request Three)
-    ++ k_both (replicate 5 (wagon_e 1000 2))
-    ++ k_both (wagon_e 1 2 ∷ replicate 5 (wagon_e 1000 2))
-    ++ k_both (wagon_e 200 2 ∷ replicate 5 (wagon_e 1000 2))
-    ++ k_both (wagon_e 201 2 ∷ replicate 5 (wagon_e 1000 2))
-    ++ k_both (replicate 7 (wagon_e 1000 2))
+    ++ k_both (replicate 5 (wagon_e 1000 V))
+    ++ k_both (wagon_e 1 V ∷ replicate 5 (wagon_e 1000 V))
+    ++ k_both (wagon_e 200 V ∷ replicate 5 (wagon_e 1000 V))
+    ++ k_both (wagon_e 201 V ∷ replicate 5 (wagon_e 1000 V))
+    ++ k_both (replicate 7 (wagon_e 1000 V))
     -- and beside 5,000 set to V a hauled engine of 1 set to V, a wagon of 400 set to M, one set to R
-    ++ k_both (hauled_engine_e 1 ∷ replicate 5 (wagon_e 1000 2))
-    ++ k_both (wagon_e 400 1 ∷ replicate 5 (wagon_e 1000 2))
-    ++ k_both (wagon_e 400 3 ∷ replicate 5 (wagon_e 1000 2))
+    ++ k_both (hauled_engine_e 1 ∷ replicate 5 (wagon_e 1000 V))
+    ++ k_both (wagon_e 400 M ∷ replicate 5 (wagon_e 1000 V))
+    ++ k_both (wagon_e 400 R ∷ replicate 5 (wagon_e 1000 V))
     -- F: hauled 8,000 with the engine in V, and 8,001
     ++ (broken 1 (replicate 10 (wagon_f 800))
     ∷ broken 1 (wagon_f 801 ∷ replicate 9 (wagon_f 800))

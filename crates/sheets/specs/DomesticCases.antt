@@ -1,5 +1,9 @@
 -- Request Six: the worked cases of the domestic book, and four whole sheets. Every bound of its rules, one by one, is in the table of limits of `domestic`.
-use Rattle.std.specs.Prelude.{ℕ, List, [], ◌∷◌, ◌++◌, ℤ, pos, neg_ℤ, get_or, take, drop, replicate}
+use Rattle.std.specs.Prelude.{ℕ, Bool, true, false, List, [], ◌∷◌, ◌++◌, ℤ, pos, neg_ℤ, get_or, take, drop, replicate}
+use Rattle.record.specs.declared.vehicle.Kind.{Kind}
+use Rattle.record.specs.declared.vehicle.Kind.TheVariants.{Wagon, HauledEngine, WorkingEngine}
+use Rattle.record.specs.declared.vehicle.Setting.{Setting}
+use Rattle.record.specs.declared.vehicle.Setting.TheVariants.{Isolated, M, V, R}
 use Rattle.record.specs.declared.vehicle.Vehicle.{Vehicle}
 use Rattle.facts.specs.Facts.{facts_of}
 use Rattle.facts.specs.declared.Facts.{Facts}
@@ -30,20 +34,8 @@ abbrev on_line : List ℕ → Order
 on_line limits = ordered limits 1 100000 100000
 
 -- ---- vehicles
-abbrev isolated : ℕ
-isolated = 0
-
-abbrev in_m : ℕ
-in_m = 1
-
-abbrev in_v : ℕ
-in_v = 2
-
-abbrev in_r : ℕ
-in_r = 3
-
 -- kind, mass, V, M, length, setting, joined, speed, D load; 4 axles; the number, here 18 for each, is read by no rule and stands on no sheet
-abbrev vehicle : ℕ → ℕ → ℕ → ℕ → ℕ → ℕ → ℕ → ℕ → ℕ → Vehicle
+abbrev vehicle : Kind → ℕ → ℕ → ℕ → ℕ → Setting → Bool → ℕ → Bool → Vehicle
 vehicle kind mass v m length setting joined speed dload =
     record {
       number = 18;
@@ -56,53 +48,53 @@ vehicle kind mass v m length setting joined speed dload =
       setting = setting;
       joined = joined;
       speed = speed;
-      matrossow = 0;
+      matrossow = false;
       dload = dload;
     }
 
 -- E, HE: working and hauled engine, mass 900, V 1,000, M 800, length 200
-abbrev e : ℕ → Vehicle
-e setting = vehicle 2 900 1000 800 200 setting 1 140 0
+abbrev e : Setting → Vehicle
+e setting = vehicle WorkingEngine 900 1000 800 200 setting true 140 false
 
-abbrev he : ℕ → Vehicle
-he setting = vehicle 1 900 1000 800 200 setting 1 140 0
+abbrev he : Setting → Vehicle
+he setting = vehicle HauledEngine 900 1000 800 200 setting true 140 false
 
 -- a wagon of length 150, by mass, V, M and setting; A: mass 600, V 1,500, M 800; C: mass 600, V 400, M 400
-abbrev wagon : ℕ → ℕ → ℕ → ℕ → Vehicle
-wagon mass v m setting = vehicle 0 mass v m 150 setting 1 140 0
+abbrev wagon : ℕ → ℕ → ℕ → Setting → Vehicle
+wagon mass v m setting = vehicle Wagon mass v m 150 setting true 140 false
 
-abbrev wa : ℕ → Vehicle
+abbrev wa : Setting → Vehicle
 wa setting = wagon 600 1500 800 setting
 
-abbrev wc : ℕ → Vehicle
+abbrev wc : Setting → Vehicle
 wc setting = wagon 600 400 400 setting
 
 abbrev with_d_load : Vehicle → Vehicle
-with_d_load v = vehicle v.kind v.mass v.vmass v.mmass v.length v.setting v.joined v.speed 1
+with_d_load v = vehicle v.kind v.mass v.vmass v.mmass v.length v.setting v.joined v.speed true
 
 abbrev unjoined : Vehicle → Vehicle
-unjoined v = vehicle v.kind v.mass v.vmass v.mmass v.length v.setting 0 v.speed v.dload
+unjoined v = vehicle v.kind v.mass v.vmass v.mmass v.length v.setting false v.speed v.dload
 
 -- ---- trains
 -- B: E(M), five A(M), five C(V): it stands in all six, with V masses of exactly 2,000
 abbrev b : List Vehicle
-b = e in_m ∷ replicate 5 (wa in_m) ++ replicate 5 (wc in_v)
+b = e M ∷ replicate 5 (wa M) ++ replicate 5 (wc V)
 
 -- B with wagons of 730 and the last of this length
 abbrev long_b : ℕ → List Vehicle
-long_b last = e in_m ∷ replicate 5 (vehicle 0 600 1500 800 730 in_m 1 140 0) ++ replicate 4 (vehicle 0 600 400 400 730 in_v 1 140 0) ++ vehicle 0 600 400 400 last in_v 1 140 0 ∷ []
+long_b last = e M ∷ replicate 5 (vehicle Wagon 600 1500 800 730 M true 140 false) ++ replicate 4 (vehicle Wagon 600 400 400 730 V true 140 false) ++ vehicle Wagon 600 400 400 last V true 140 false ∷ []
 
 abbrev third_of : ℕ → List Vehicle
-third_of speed = e in_m ∷ wa in_m ∷ wa in_m ∷ vehicle 0 600 1500 800 150 in_m 1 speed 0 ∷ wa in_m ∷ wa in_m ∷ replicate 5 (wc in_v)
+third_of speed = e M ∷ wa M ∷ wa M ∷ vehicle Wagon 600 1500 800 150 M true speed false ∷ wa M ∷ wa M ∷ replicate 5 (wc V)
 
 abbrev with_engines : ℕ → List Vehicle
-with_engines n = e in_m ∷ replicate n (he in_m) ++ wa in_m ∷ wa in_m ∷ []
+with_engines n = e M ∷ replicate n (he M) ++ wa M ∷ wa M ∷ []
 
 abbrev behind_engine : ℕ → List Vehicle
-behind_engine speed = vehicle 2 900 1000 800 200 in_m 1 speed 0 ∷ replicate 5 (wa in_m) ++ replicate 5 (wc in_v)
+behind_engine speed = vehicle WorkingEngine 900 1000 800 200 M true speed false ∷ replicate 5 (wa M) ++ replicate 5 (wc V)
 
 abbrev with_isolated : ℕ → List Vehicle
-with_isolated n = e in_m ∷ replicate 5 (wa in_m) ++ replicate 4 (wc in_v) ++ replicate n (wagon 1 400 400 isolated) ++ wc in_v ∷ []
+with_isolated n = e M ∷ replicate 5 (wa M) ++ replicate 4 (wc V) ++ replicate n (wagon 1 400 400 Isolated) ++ wc V ∷ []
 
 -- ---- what a case shows: first rules ME140 to MA80, asked, granted, speed, p, exact margin, mark, braked mass
 pub record Line : Type 0 where
@@ -140,23 +132,23 @@ shown =
     -- 32: B, columns 140 0 100 0 0 0
     ∷ judged (on_line (140 ∷ 0 ∷ 100 ∷ 0 ∷ 0 ∷ 0 ∷ [])) (b)
     -- 33: B, one D load
-    ∷ judged order (e in_m ∷ with_d_load (wa in_m) ∷ replicate 4 (wa in_m) ++ replicate 5 (wc in_v))
+    ∷ judged order (e M ∷ with_d_load (wa M) ∷ replicate 4 (wa M) ++ replicate 5 (wc V))
     -- 34: B, last wagon not joined and isolated
-    ∷ judged order (e in_m ∷ replicate 5 (wa in_m) ++ replicate 4 (wc in_v) ++ unjoined (wc isolated) ∷ [])
+    ∷ judged order (e M ∷ replicate 5 (wa M) ++ replicate 4 (wc V) ++ unjoined (wc Isolated) ∷ [])
     -- 35a: B, third wagon of 100 km/h
     ∷ judged order (third_of 100)
     -- 35b: B, third wagon of 99 km/h
     ∷ judged order (third_of 99)
     -- 36b: E(M), one A(M)
-    ∷ judged order (e in_m ∷ wa in_m ∷ [])
+    ∷ judged order (e M ∷ wa M ∷ [])
     -- 37b: B, train length 7,501
     ∷ judged order (long_b 731)
     -- 38a: E(M), 2 HE(M), 2 A(M)
-    ∷ judged order (e in_m ∷ he in_m ∷ he in_m ∷ wa in_m ∷ wa in_m ∷ [])
+    ∷ judged order (e M ∷ he M ∷ he M ∷ wa M ∷ wa M ∷ [])
     -- 38b: the same, second HE isolated
-    ∷ judged order (e in_m ∷ he in_m ∷ he isolated ∷ wa in_m ∷ wa in_m ∷ [])
+    ∷ judged order (e M ∷ he M ∷ he Isolated ∷ wa M ∷ wa M ∷ [])
     -- 38c: the same, second HE behind the first A
-    ∷ judged order (e in_m ∷ he in_m ∷ wa in_m ∷ he in_m ∷ wa in_m ∷ [])
+    ∷ judged order (e M ∷ he M ∷ wa M ∷ he M ∷ wa M ∷ [])
     -- 39a: E(M), 3 HE(M), 2 A(M)
     ∷ judged order (with_engines 3)
     -- 39b: E(M), 5 HE(M), 2 A(M)
@@ -168,49 +160,49 @@ shown =
     -- 40b: B, engine of 79 km/h
     ∷ judged order (behind_engine 79)
     -- 41a: B, sixth hauled set to M
-    ∷ judged order (e in_m ∷ replicate 5 (wa in_m) ++ wc in_m ∷ replicate 4 (wc in_v))
+    ∷ judged order (e M ∷ replicate 5 (wa M) ++ wc M ∷ replicate 4 (wc V))
     -- 41c: B, fifth hauled set to V, V mass 0
-    ∷ judged order (e in_m ∷ replicate 4 (wa in_m) ++ wagon 600 0 800 in_v ∷ replicate 5 (wc in_v))
+    ∷ judged order (e M ∷ replicate 4 (wa M) ++ wagon 600 0 800 V ∷ replicate 5 (wc V))
     -- long (1403.2): not B with its third hauled set to R, but with its sixth; nor B with a second working engine, set to V
-    ∷ judged order (e in_m ∷ wa in_m ∷ wa in_m ∷ wa in_r ∷ wa in_m ∷ wa in_m ∷ replicate 5 (wc in_v))
-    ∷ judged order (e in_m ∷ replicate 5 (wa in_m) ++ wc in_r ∷ replicate 4 (wc in_v))
-    ∷ judged order (e in_m ∷ e in_v ∷ replicate 5 (wa in_m) ++ replicate 5 (wc in_v))
+    ∷ judged order (e M ∷ wa M ∷ wa M ∷ wa R ∷ wa M ∷ wa M ∷ replicate 5 (wc V))
+    ∷ judged order (e M ∷ replicate 5 (wa M) ++ wc R ∷ replicate 4 (wc V))
+    ∷ judged order (e M ∷ e V ∷ replicate 5 (wa M) ++ replicate 5 (wc V))
     -- 42a: B, first hauled isolated
-    ∷ judged order (e in_m ∷ wa isolated ∷ replicate 4 (wa in_m) ++ replicate 5 (wc in_v))
+    ∷ judged order (e M ∷ wa Isolated ∷ replicate 4 (wa M) ++ replicate 5 (wc V))
     -- 42b: B, last hauled isolated
-    ∷ judged order (e in_m ∷ replicate 5 (wa in_m) ++ replicate 4 (wc in_v) ++ wc isolated ∷ [])
+    ∷ judged order (e M ∷ replicate 5 (wa M) ++ replicate 4 (wc V) ++ wc Isolated ∷ [])
     -- 43: B, one C of V 401
-    ∷ judged order (e in_m ∷ replicate 5 (wa in_m) ++ wagon 600 401 400 in_v ∷ replicate 4 (wc in_v))
+    ∷ judged order (e M ∷ replicate 5 (wa M) ++ wagon 600 401 400 V ∷ replicate 4 (wc V))
     -- 44a: B with ten isolated of mass 1 before its last
     ∷ judged order (with_isolated 10)
     -- 44b: B with eleven
     ∷ judged order (with_isolated 11)
     -- 4a: E(V), 10 W(V), V masses 6,693 in all: margin 0
-    ∷ judged order (e in_v ∷ replicate 9 (wagon 600 569 500 in_v) ++ wagon 600 572 500 in_v ∷ [])
+    ∷ judged order (e V ∷ replicate 9 (wagon 600 569 500 V) ++ wagon 600 572 500 V ∷ [])
     -- 4b: V masses 6,692: margin -400, shown as -1 t
-    ∷ judged order (e in_v ∷ replicate 9 (wagon 600 569 500 in_v) ++ wagon 600 571 500 in_v ∷ [])
+    ∷ judged order (e V ∷ replicate 9 (wagon 600 569 500 V) ++ wagon 600 571 500 V ∷ [])
     -- 6a: E(V), 10 W(V) of V 1,500, hauled mass 8,000
-    ∷ judged order (e in_v ∷ replicate 9 (wagon 800 1500 500 in_v) ++ wagon 800 1500 500 in_v ∷ [])
+    ∷ judged order (e V ∷ replicate 9 (wagon 800 1500 500 V) ++ wagon 800 1500 500 V ∷ [])
     -- 6b: the same, hauled mass 8,001
-    ∷ judged order (e in_v ∷ replicate 9 (wagon 800 1500 500 in_v) ++ wagon 801 1500 500 in_v ∷ [])
+    ∷ judged order (e V ∷ replicate 9 (wagon 800 1500 500 V) ++ wagon 801 1500 500 V ∷ [])
     -- 6d: E(V), 15 W(V) of V 1,500, hauled mass 12,000
-    ∷ judged order (e in_v ∷ replicate 14 (wagon 800 1500 500 in_v) ++ wagon 800 1500 500 in_v ∷ [])
+    ∷ judged order (e V ∷ replicate 14 (wagon 800 1500 500 V) ++ wagon 800 1500 500 V ∷ [])
     -- 6e: the same, hauled mass 12,001
-    ∷ judged order (e in_v ∷ replicate 14 (wagon 800 1500 500 in_v) ++ wagon 801 1500 500 in_v ∷ [])
+    ∷ judged order (e V ∷ replicate 14 (wagon 800 1500 500 V) ++ wagon 801 1500 500 V ∷ [])
     -- 6f: E(M), 15 W(V) of V 1,500, hauled mass 12,000
-    ∷ judged order (e in_m ∷ replicate 14 (wagon 800 1500 500 in_v) ++ wagon 800 1500 500 in_v ∷ [])
+    ∷ judged order (e M ∷ replicate 14 (wagon 800 1500 500 V) ++ wagon 800 1500 500 V ∷ [])
     -- 6g: the same, hauled mass 12,001
-    ∷ judged order (e in_m ∷ replicate 14 (wagon 800 1500 500 in_v) ++ wagon 801 1500 500 in_v ∷ [])
+    ∷ judged order (e M ∷ replicate 14 (wagon 800 1500 500 V) ++ wagon 801 1500 500 V ∷ [])
     -- 7b: E(M), 5 W(M), 10 W(V), V 1,500, M 900, hauled mass 16,000
-    ∷ judged order (e in_m ∷ replicate 5 (wagon 1066 1500 900 in_m) ++ replicate 9 (wagon 1066 1500 900 in_v) ++ wagon 1076 1500 900 in_v ∷ [])
+    ∷ judged order (e M ∷ replicate 5 (wagon 1066 1500 900 M) ++ replicate 9 (wagon 1066 1500 900 V) ++ wagon 1076 1500 900 V ∷ [])
     -- 7c: the same, hauled mass 16,001
-    ∷ judged order (e in_m ∷ replicate 5 (wagon 1066 1500 900 in_m) ++ replicate 9 (wagon 1066 1500 900 in_v) ++ wagon 1077 1500 900 in_v ∷ [])
+    ∷ judged order (e M ∷ replicate 5 (wagon 1066 1500 900 M) ++ replicate 9 (wagon 1066 1500 900 V) ++ wagon 1077 1500 900 V ∷ [])
     -- 8b: ME100 asked, E(M), 5 W(M) of V 401, 5 W(V) of V 500
-    ∷ judged (asking 3) (e in_m ∷ replicate 5 (wagon 600 401 500 in_m) ++ replicate 5 (wagon 600 500 500 in_v))
+    ∷ judged (asking 3) (e M ∷ replicate 5 (wagon 600 401 500 M) ++ replicate 5 (wagon 600 500 500 V))
     -- 18a: MA100 asked, E(M), 10 W(M), M masses 3,933 in all: margin 0
-    ∷ judged (asking 4) (e in_m ∷ replicate 9 (wagon 600 600 313 in_m) ++ wagon 600 600 316 in_m ∷ [])
+    ∷ judged (asking 4) (e M ∷ replicate 9 (wagon 600 600 313 M) ++ wagon 600 600 316 M ∷ [])
     -- 18b: M masses 3,932: margin -400
-    ∷ judged (asking 4) (e in_m ∷ replicate 9 (wagon 600 600 313 in_m) ++ wagon 600 600 315 in_m ∷ [])
+    ∷ judged (asking 4) (e M ∷ replicate 9 (wagon 600 600 313 M) ++ wagon 600 600 315 M ∷ [])
     ∷ []
 
 abbrev pub expected : List Line
@@ -305,11 +297,11 @@ whole_sheets =
     -- 30
     sheet_of domestic (facts_of (b)) order
     -- 4b
-    ∷ sheet_of domestic (facts_of (e in_v ∷ replicate 9 (wagon 600 569 500 in_v) ++ wagon 600 571 500 in_v ∷ [])) order
+    ∷ sheet_of domestic (facts_of (e V ∷ replicate 9 (wagon 600 569 500 V) ++ wagon 600 571 500 V ∷ [])) order
     -- 8b
-    ∷ sheet_of domestic (facts_of (e in_m ∷ replicate 5 (wagon 600 401 500 in_m) ++ replicate 5 (wagon 600 500 500 in_v))) (asking 3)
+    ∷ sheet_of domestic (facts_of (e M ∷ replicate 5 (wagon 600 401 500 M) ++ replicate 5 (wagon 600 500 500 V))) (asking 3)
     -- 18b
-    ∷ sheet_of domestic (facts_of (e in_m ∷ replicate 9 (wagon 600 600 313 in_m) ++ wagon 600 600 315 in_m ∷ [])) (asking 4)
+    ∷ sheet_of domestic (facts_of (e M ∷ replicate 9 (wagon 600 600 313 M) ++ wagon 600 600 315 M ∷ [])) (asking 4)
     ∷ []
 
 abbrev pub expected_sheets : List (List ℕ)

@@ -1,5 +1,5 @@
 -- Document 01, "The sheet, 32 bytes", and the 33 of request Six: its figures, and where each stands, of any rule book.
-use Rattle.std.specs.Prelude.{ℕ, ◌-◌, cond, List, [], ◌∷◌, ◌++◌, map, length, get_or, take, drop, replicate}
+use Rattle.std.specs.Prelude.{ℕ, ◌-◌, cond, List, [], ◌∷◌, ◌++◌, map, get_or, take, replicate}
 use Rattle.lists.specs.Words.{◌at_most◌}
 use Rattle.lists.specs.Numbers.{four_bytes}
 use Rattle.margin.specs.Margin.{tonnes_of, bytes_of}
@@ -12,7 +12,7 @@ use Rattle.categories.specs.Brakes.{margin_for, braked_of}
 use Rattle.categories.specs.declared.category.Category.{Category}
 use Rattle.rules.specs.Rules.{first_broken}
 use Rattle.rules.specs.Books.{RuleBook, broken_by}
-use Rattle.rules.specs.Grants.{decision_of}
+use Rattle.rules.specs.Grants.{absent, granted_number, granted_speed, decision_of}
 use Rattle.sheets.specs.declared.Sheet.{Sheet}
 
 -- bytes of a sheet: a rule byte more where there is a category more
@@ -69,8 +69,8 @@ abbrev four_first : Sheet → List ℕ → List ℕ
 four_first x rest =
     -- 0 asked; 1 granted, or 0; 2 granted speed, or 0; 3 first common rule broken, or 0
     x.asked
-    ∷ x.decision.granted
-    ∷ x.decision.speed
+    ∷ granted_number x.decision.granted
+    ∷ granted_speed x.decision.granted
     ∷ x.common
     ∷ rest
 
@@ -90,12 +90,12 @@ in_most sheet = take 33 (sheet ++ (0 ∷ []))
 abbrev pub head_bytes : Sheet → List ℕ
 head_bytes x =
     four_first x
-    (get_or x.decision.broken 0 0
-    ∷ get_or x.decision.broken 1 0
-    ∷ get_or x.decision.broken 2 0
-    ∷ get_or x.decision.broken 3 0
-    ∷ get_or x.decision.broken 4 0
-    ∷ get_or x.decision.broken 5 0
+    ((get_or x.decision.offers 0 absent).broken
+    ∷ (get_or x.decision.offers 1 absent).broken
+    ∷ (get_or x.decision.offers 2 absent).broken
+    ∷ (get_or x.decision.offers 3 absent).broken
+    ∷ (get_or x.decision.offers 4 absent).broken
+    ∷ (get_or x.decision.offers 5 absent).broken
     ∷ [])
 
 -- the first common rule broken, of what category 1 breaks: the cross-border ones go up to 23, a domestic one there is not
@@ -103,18 +103,6 @@ abbrev pub common_by : Book → ℕ → ℕ
 common_by CrossBorder first = cond (first at_most 23) first 0
 common_by Domestic first = 0
 
--- where the rule bytes end
-abbrev pub tail_at : Book → ℕ
-tail_at CrossBorder = 9
-tail_at Domestic = 10
-
--- bytes over a line, from its front
-abbrev over : List ℕ → List ℕ → List ℕ
-over bytes line = take (length bytes) bytes ++ drop (length bytes) line
-
--- the head, the tail over it from a place on, zeros up to 33
+-- the head up to where the tail begins, the tail, which ends a sheet of so many bytes, zeros up to 33
 abbrev pub laid : List ℕ → List ℕ → ℕ → List ℕ
-laid head tail at = cut (over head (replicate 33 0))
-  where
-    cut : List ℕ → List ℕ
-    cut line = take at line ++ (over tail (take (33 - at) (drop at line)) ++ drop (33 - at) (drop at line))
+laid head tail length = take (length - 23) head ++ (tail ++ replicate (33 - length) 0)

@@ -1,12 +1,11 @@
 // The sheet: its figures, and its bytes.
 #![tactic(auto)]
 
-ghost use Rattle.std.specs.Prelude.{◌≡◌, cond, ◌≤◌};
-ghost use Rattle.lists.specs.Words.{◌at_most◌};
+ghost use Rattle.std.specs.Prelude.{◌≡◌, ◌+◌, ◌≤◌};
 ghost use Rattle.margin.specs.Margin.{tonnes_of, bytes_of};
 ghost use Rattle.categories.specs.Brakes.{margin_for};
 ghost use Rattle.books.specs.Books.{book_of};
-ghost use Rattle.sheets.specs.Sheets.{sheet_length, figures_of, head_bytes, tail_bytes, tail_at, common_by, laid, sheet_of, in_most};
+ghost use Rattle.sheets.specs.Sheets.{sheet_length, figures_of, head_bytes, tail_bytes, common_by, laid, sheet_of, in_most};
 
 use books::{decide, is_marked};
 use categories::brake::{braked_of, margin_for};
@@ -17,6 +16,11 @@ use rules::grant::Decision;
 
 // The most bytes that a sheet has.
 pub const MOST: usize = 33;
+
+// The bytes up to the last rule's where there are six categories, and those behind the rules.
+const HEAD: usize = 10;
+
+const TAIL: usize = 23;
 
 // The bytes of a sheet.
 pub fn length_of(book: Book) -> usize
@@ -46,83 +50,6 @@ pub struct Sheet {
     pub length: u32,
 }
 
-fn head_bytes(x: Sheet) -> [u8; 10]
-    ensures { result ≡ head_bytes x }
-{
-    let broken = x.decision.broken;
-    [
-        x.asked,
-        x.decision.granted,
-        x.decision.speed,
-        x.common,
-        broken[0],
-        broken[1],
-        broken[2],
-        broken[3],
-        broken[4],
-        broken[5],
-    ]
-}
-
-fn tail_bytes(x: Sheet) -> [u8; 23]
-    ensures { result ≡ tail_bytes x }
-{
-    let margin = x.margin;
-    [
-        x.dloads,
-        margin[0],
-        margin[1],
-        margin[2],
-        x.percentage,
-        x.mark,
-        x.isolated,
-        (x.hauled % 256) as u8,
-        (x.hauled / 256 % 256) as u8,
-        (x.hauled / 65536 % 256) as u8,
-        (x.hauled / 16777216 % 256) as u8,
-        (x.train % 256) as u8,
-        (x.train / 256 % 256) as u8,
-        (x.train / 65536 % 256) as u8,
-        (x.train / 16777216 % 256) as u8,
-        (x.braked % 256) as u8,
-        (x.braked / 256 % 256) as u8,
-        (x.braked / 65536 % 256) as u8,
-        (x.braked / 16777216 % 256) as u8,
-        (x.length % 256) as u8,
-        (x.length / 256 % 256) as u8,
-        (x.length / 65536 % 256) as u8,
-        (x.length / 16777216 % 256) as u8,
-    ]
-}
-
-// Where the rule bytes end.
-fn tail_at(book: Book) -> usize
-    ensures { (result ≡ tail_at book) × (result ≤ 10) }
-{
-    match book {
-        Book::CrossBorder => 9,
-        Book::Domestic => 10,
-    }
-}
-
-// The head up to a place, and the tail behind it.
-fn lay(head: [u8; 10], tail: [u8; 23], at: usize) -> [u8; MOST]
-    requires { at ≤ 10 }
-    ensures { result ≡ laid head tail at }
-{
-    let mut line = [0u8; MOST];
-    line[..10].copy_from_slice(&head);
-    line[at..at + 23].copy_from_slice(&tail);
-    line
-}
-
-// Byte 14, of a domestic sheet 15.
-fn mark_of(book: Book, asked: u8, f: Facts) -> u8
-    ensures { result ≡ cond ((book_of book).mark asked f) 1 0 }
-{
-    if is_marked(book, asked, f) { 1 } else { 0 }
-}
-
 // The three bytes of a category's margin.
 fn margin_bytes(c: Category, f: Facts, o: Order) -> [u8; 3]
     ensures { result ≡ bytes_of (tonnes_of (margin_for c f o)) }
@@ -130,51 +57,113 @@ fn margin_bytes(c: Category, f: Facts, o: Order) -> [u8; 3]
     margin::three_bytes(margin::whole_tonnes(margin_for(c, f, o)))
 }
 
-// The common rules are the first that any cross-border category is asked, and their numbers go up to 23.
-fn up_to_23(first: u8) -> u8
-    ensures { result ≡ cond (first at_most 23) first 0 }
-{
-    if first <= 23 { first } else { 0 }
-}
-
-// The domestic book has no common rule.
+// The common rules are the first that any cross-border category is asked, and their numbers go up to 23; the domestic book has none.
 fn common_of(book: Book, first: u8) -> u8
     ensures { result ≡ common_by book first }
 {
     match book {
-        Book::CrossBorder => up_to_23(first),
+        Book::CrossBorder => if first <= 23 { first } else { 0 },
         Book::Domestic => 0,
     }
 }
 
-fn figures_of(book: Book, f: Facts, o: Order) -> Sheet
-    ensures { result ≡ figures_of (book_of book) f o }
-{
-    let c = category_of(book, o.asked);
-    let decision = decide(book, f, o);
-    let broken = decision.broken;
-    let margin = margin_bytes(c, f, o);
-    Sheet {
-        asked: o.asked,
-        common: common_of(book, broken[0]),
-        decision: decision,
-        dloads: f.dloads,
-        margin: margin,
-        percentage: c.percentage_on(f, o),
-        mark: mark_of(book, o.asked, f),
-        isolated: f.isolated,
-        hauled: f.hauledMass,
-        train: f.trainMass,
-        braked: braked_of(c, f),
-        length: f.trainLength,
+impl Sheet {
+    // The figures by the order's book.
+    fn of(f: Facts, o: Order) -> Sheet
+        ensures { result ≡ figures_of (book_of o.book) f o }
+    {
+        let c = category_of(o.book, o.asked);
+        let decision = decide(o.book, f, o);
+        Sheet {
+            asked: o.asked,
+            common: common_of(o.book, decision.offers[0].broken),
+            decision: decision,
+            dloads: f.dloads,
+            margin: margin_bytes(c, f, o),
+            percentage: c.percentage_on(f, o),
+            mark: u8::from(is_marked(o.book, o.asked, f)),
+            isolated: f.isolated,
+            hauled: f.hauledMass,
+            train: f.trainMass,
+            braked: braked_of(c, f),
+            length: f.trainLength,
+        }
     }
+
+    fn head(self) -> [u8; HEAD]
+        ensures { result ≡ head_bytes self }
+    {
+        let [x1, x2, x3, x4, x5, x6] = self.decision.offers;
+        let (granted, speed) = match self.decision.granted {
+            Some(best) => (best.number, best.speed),
+            None => (0, 0),
+        };
+        [
+            self.asked,
+            granted,
+            speed,
+            self.common,
+            x1.broken,
+            x2.broken,
+            x3.broken,
+            x4.broken,
+            x5.broken,
+            x6.broken,
+        ]
+    }
+
+    // Of the braked mass, which is the one sum of 64 bits, the four low bytes.
+    fn tail(self) -> [u8; TAIL]
+        ensures { result ≡ tail_bytes self }
+    {
+        let [low, middle, high] = self.margin;
+        let [h0, h1, h2, h3] = self.hauled.to_le_bytes();
+        let [t0, t1, t2, t3] = self.train.to_le_bytes();
+        let [b0, b1, b2, b3, ..] = self.braked.to_le_bytes();
+        let [l0, l1, l2, l3] = self.length.to_le_bytes();
+        [
+            self.dloads,
+            low,
+            middle,
+            high,
+            self.percentage,
+            self.mark,
+            self.isolated,
+            h0,
+            h1,
+            h2,
+            h3,
+            t0,
+            t1,
+            t2,
+            t3,
+            b0,
+            b1,
+            b2,
+            b3,
+            l0,
+            l1,
+            l2,
+            l3,
+        ]
+    }
+}
+
+// The head, and over it the tail, which ends a sheet of so many bytes; zeros up to 33.
+fn lay(head: [u8; HEAD], tail: [u8; TAIL], length: usize) -> [u8; MOST]
+    requires { (23 ≤ length) × (length ≤ 33) }
+    ensures { result ≡ laid head tail length }
+{
+    let mut line = [0u8; MOST];
+    line[..HEAD].copy_from_slice(&head);
+    line[length - TAIL..length].copy_from_slice(&tail);
+    line
 }
 
 // The sheet by the order's book: 32 bytes and a 0, or 33.
 pub fn sheet_of(f: Facts, o: Order) -> [u8; MOST]
     ensures { result ≡ in_most (sheet_of (book_of o.book) f o) }
 {
-    let book = o.book;
-    let x = figures_of(book, f, o);
-    lay(head_bytes(x), tail_bytes(x), tail_at(book))
+    let x = Sheet::of(f, o);
+    lay(x.head(), x.tail(), length_of(o.book))
 }

@@ -1,27 +1,26 @@
 -- `sheets::lay` meets its contract: what two copies leave.
-use Rattle.std.proofs.Common.{◌≡◌, ℕ, ◌+◌, ◌-◌, ◌≤◌, List, ◌++◌, length, take, drop, replicate, sym, ap, ◌∙◌, arith, append_assoc}
-use Rattle.std.proofs.lemmas.List.{take-append-drop, drop-append-le, length-take, length-drop, length-append}
-use Rattle.std.proofs.Math.Seq.{take-length}
-use Rattle.std.proofs.Common.{rules}
+use Rattle.std.proofs.Common.{◌≡◌, ℕ, ◌+◌, ◌-◌, ◌≤◌, List, ◌++◌, length, drop, replicate, sym, ap, ap₂, ◌∙◌, arith, rules}
+use Rattle.std.proofs.lemmas.List.{take-append-le, drop-drop, drop_at, drop-replicate}
 use borrow.Rule.Slice.PartMut.{put_mid}
 use Rattle.sheets.specs.Sheets.{laid}
 use Rattle.sheets.proofs.lay.Goals as goal
 
--- of what is cut in two, all but the first n
-all_but_first : (n m : ℕ) (ys : List ℕ) → n ≤ m → m ≤ length ys → drop n (take m ys) ++ drop m ys ≡ drop n ys
-all_but_first n m ys h k =
-    let l : n ≤ length (take m ys) = omega (arith, length-take m ys) in
-    sym (drop-append-le n (take m ys) (drop m ys) l) ∙ ap (drop n) (take-append-drop m ys)
-
-two_copies : (head tail : List ℕ) (at : ℕ) → length head ≡ 10 → length tail ≡ 23 → at ≤ 10 → put_mid at (at + 23 - at) (head ++ replicate 23 0) tail ≡ laid head tail at
-two_copies head tail at h t a =
-    let line = head ++ replicate 23 0 in
-    let k : at + 23 - at ≡ 23 = omega arith in
-    let m : 33 - at ≤ length (drop at line) = omega (arith, length-drop at line, length-append head (replicate 23 0)) in
-    rw (k, take-length tail, take-length head, h, t)
-    (ap (λ (x : List ℕ). take at line ++ x) (ap (λ (x : List ℕ). tail ++ x) (sym (all_but_first 23 (33 - at) (drop at line) (omega arith) m)) ∙ sym (append_assoc tail (drop 23 (take (33 - at) (drop at line))) (drop (33 - at) (drop at line)))))
+-- the tail ends at n, and behind it are what is left of 23 zeros
+two_copies : (head tail : List ℕ) (n : ℕ) → length head ≡ 10 → 23 ≤ n → n ≤ 33 → put_mid (n - 23) (n - (n - 23)) (head ++ replicate 23 0) tail ≡ laid head tail n
+two_copies head tail n h low high =
+    let front : n - 23 ≤ length head = omega arith in
+    let end : n - 23 + (n - (n - 23)) ≡ 10 + (n - 10) = omega arith in
+    let left : 23 - (n - 10) ≡ 33 - n = omega arith in
+    ap₂ (λ (x y : List ℕ). x ++ (tail ++ y))
+    (take-append-le (n - 23) head (replicate 23 0) front)
+    (drop-drop (n - (n - 23)) (n - 23) (head ++ replicate 23 0)
+    ∙ ap (λ (k : ℕ). drop k (head ++ replicate 23 0)) end
+    ∙ sym (drop-drop (n - 10) 10 (head ++ replicate 23 0))
+    ∙ ap (drop (n - 10)) (drop_at head (replicate 23 0) 10 h)
+    ∙ drop-replicate (n - 10) 23 0
+    ∙ ap (λ (k : ℕ). replicate k 0) left)
 
 pub returns : goal.returns
 returns c =
     rw (c.copy_from_slice.ensures.after, c.copy_from_slice-2.ensures.after)
-    (two_copies c.args.head c.args.tail c.args.at (search rules) (search rules) c.requires)
+    (two_copies c.args.head c.args.tail c.args.length (search rules) c.requires.0 c.requires.1)
