@@ -5,18 +5,12 @@ ghost use Rattle.std.specs.Prelude.{◌≡◌, [], ◌++◌, ◌+◌, ◌<◌, g
 ghost use Rattle.record.specs.Records.{record_count, records_of};
 ghost use Rattle.speed.specs.Speed.{whole_good, slowest_of, holds_the_speed};
 
-use record::vehicle::{Found, MOST, SIZE, first_bad};
+use record::vehicle::{MOST, SIZE, first_bad};
 
 fn is_whole_good(portion: &[u8]) -> bool
     ensures { result ≡ whole_good portion.now }
 {
-    if portion.len() % SIZE != 0 {
-        return false;
-    }
-    match first_bad(portion) {
-        Found::Nothing => true,
-        Found::At(_) => false,
-    }
+    portion.len().is_multiple_of(SIZE) && first_bad(portion).is_none()
 }
 
 // The record at place `k` of the two portions in order.
