@@ -1,12 +1,13 @@
 -- The ceilings: the test and the statement; and that at most 200 good hauled records are within them. Assumes nothing.
-use Prim.Native.Nat.{ℕ, ◌≤◌, ◌<◌}
+use Prim.Native.Nat.{ℕ, zero, suc, ◌≤◌, ◌<◌}
 use native.Mathlib.Omega.{arith}
-use mathlib.Core.Path.{◌≡◌, refl, ap, ap₂, ◌∙◌}
-use mathlib.Core.Bool.{Bool, true, ◌&&◌, cond}
+use mathlib.Core.Path.{◌≡◌, refl, sym, ap, ap₂, ◌∙◌}
+use mathlib.Core.Bool.{Bool, true, false, ◌&&◌, cond}
 use mathlib.Core.List.{List, [], ◌∷◌, ◌++◌, reverse}
 use borrow.Author.Tests.{le-leb, leb-true}
 use lib.Dec.{leb}
-use lib.ListN.{get_or, length-append, length-reverse}
+use lib.ListN.{length, take, drop, get_or, length-append, length-reverse}
+use Rattle.std.specs.Prelude.{IsTrue, EachIndex, ◌↔◌}
 use Rattle.lists.specs.Words.{all, Every}
 use Rattle.record.specs.Ranges.{value}
 use Rattle.record.specs.declared.vehicle.Setting.{Setting}
@@ -52,9 +53,39 @@ test_within a e = all_every (figures a) e
 pub figure_at_lem : (a : Account) → Within a → (k : ℕ) → Fits (get_or (figures a) k (0 up_to 0))
 figure_at_lem a w k = every_at Fits (0 up_to 0) (omega arith) (figures a) k w
 
-pub chain_within : (a : Account) → chain fits true (figures a) ≡ within a
-unfolding within
-chain_within a = chain_all fits true (figures a)
+-- the test of five figures under one ceiling, which stands for their five rows
+five : List ℕ → ℕ → List Figure
+five l n = get_or l 0 0 up_to n ∷ get_or l 1 0 up_to n ∷ get_or l 2 0 up_to n ∷ get_or l 3 0 up_to n ∷ get_or l 4 0 up_to n ∷ []
+
+same_if : (b c : Bool) → (b ≡ true → c ≡ true) → (c ≡ true → b ≡ true) → b ≡ c
+same_if true c h k = sym (h refl)
+same_if false true h k = k refl
+same_if false false h k = refl
+
+module _ (l : List ℕ) (long : length l ≡ 5) (n : ℕ) where
+  at_five : Every Fits (five l n) → (k : ℕ) → k < 5 → get_or l k 0 ≤ n
+  unfolding five
+  at_five e zero h = e.0
+  at_five e (suc zero) h = e.1.0
+  at_five e (suc (suc zero)) h = e.1.1.0
+  at_five e (suc (suc (suc zero))) h = e.1.1.1.0
+  at_five e (suc (suc (suc (suc zero)))) h = e.1.1.1.1.0
+  at_five e (suc (suc (suc (suc (suc k))))) h = absurd (omega arith)
+
+  five_test : (r : Bool) → (IsTrue r ↔ EachIndex l (λ k. get_or l k 0 ≤ n)) → r ≡ all fits (five l n)
+  unfolding five
+  five_test r e =
+      same_if r (all fits (five l n))
+      (λ t. let h = e.0 t in every_all (five l n) (h 0 (omega arith), (h 1 (omega arith), (h 2 (omega arith), (h 3 (omega arith), (h 4 (omega arith), tt))))))
+      (λ t. e.1 (λ k h. at_five (all_every (five l n) t) k (omega arith)))
+
+pub chain_within : (a : Account) → length a.first ≡ 5 → (front : Bool) → front ≡ chain fits true (take 15 (figures a)) → (r : Bool) → (IsTrue r ↔ EachIndex a.first (λ k. get_or a.first k 0 ≤ 4))
+    → chain fits (front && r) (drop 20 (figures a)) ≡ within a
+unfolding within five
+chain_within a long front e r h =
+    ap₂ (λ (x y : Bool). chain fits (x && y) (drop 20 (figures a))) e (five_test a.first long 4 r h)
+    ∙ ap (λ (x : Bool). chain fits x (drop 20 (figures a))) (sym (chain_all fits (chain fits true (take 15 (figures a))) (five a.first 4)))
+    ∙ chain_all fits true (figures a)
 
 -- ---- at most 200 good hauled records
 -- a field of a good record, by the table's high end

@@ -1,7 +1,7 @@
 // The account of a portion of hauled vehicles, and joining. Knows no category.
 #![tactic(auto)]
 
-ghost use Rattle.std.specs.Prelude.{◌≡◌};
+ghost use Rattle.std.specs.Prelude.{◌≡◌, ◌↔◌, ◌≤◌, IsTrue, EachIndex, slice_index};
 ghost use Rattle.record.specs.Records.{records_of};
 ghost use Rattle.account.specs.Ceilings.{within};
 ghost use Rattle.account.specs.Portions.{accounted, engine_or_bad, joined};
@@ -9,7 +9,6 @@ ghost use Rattle.account.specs.Portions.{accounted, engine_or_bad, joined};
 use crate::gather::Gathered;
 use record::vehicle::{Kind, MOST, SIZE, first_bad, read};
 
-mod figure;
 mod gather;
 mod joining;
 
@@ -42,7 +41,7 @@ pub struct Account {
     pub rule17: bool,
     pub rule18: bool,
     pub slowest: u32,
-    // the settings of the first five, 4 where there is none
+    // The settings of the first five, 4 where there is none: numbers, since what C lends as an account may have any, and is refused by 7.
     pub first: [u32; 5],
     // length of records set to V (request Three)
     pub vlength: u32,
@@ -98,22 +97,47 @@ pub fn account_of(portion: &[u8]) -> Result<Account, Refusal>
     Ok(gathered.account(portion))
 }
 
+// Whether none of these is above its ceiling, which is one for all.
+fn are_at_most(figures: &[u32], ceiling: u32) -> bool
+    ensures { IsTrue result ↔ EachIndex figures.now (λ k. slice_index figures.now k ≤ ceiling) }
+{
+    figures.iter().all(|x| *x <= ceiling)
+}
+
 // Whether an account has no figure above its ceiling; 7 is for the rest.
 pub fn within_ceilings(account: Account) -> bool
     ensures { result ≡ within account }
 {
-    figure::is_within(account)
+    (account.count <= 200)
+        & (account.mass <= 500_000)
+        & (account.vmass <= 500_000)
+        & (account.mmass <= 500_000)
+        & (account.length <= 200_000)
+        & (account.axles <= 4_800)
+        & (account.vaxles <= 4_800)
+        & (account.engines <= 200)
+        & (account.mset <= 200)
+        & (account.isolated <= 200)
+        & (account.dloads <= 200)
+        & (account.leading <= 200)
+        & (account.trailing <= 200)
+        & (account.longest <= 200)
+        & (account.slowest <= 200)
+        & are_at_most(&account.first, 4)
+        & (account.vlength <= 200_000)
+        & (account.enginemmass <= 500_000)
+        & (account.wagonvmass <= 500_000)
 }
 
 // The account of two portions, from their accounts.
 pub fn join(left: Account, right: Account) -> Result<Account, Refusal>
     ensures { result ≡ joined left right }
 {
-    if !(figure::is_within(left) & figure::is_within(right)) {
+    if !(within_ceilings(left) & within_ceilings(right)) {
         return Err(Refusal::AboveCeiling);
     }
     let account = joining::add(left, right);
-    if !figure::is_within(account) {
+    if !within_ceilings(account) {
         return Err(Refusal::TooMany);
     }
     Ok(account)
