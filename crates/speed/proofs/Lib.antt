@@ -1,3 +1,4 @@
+pub mod Reduces
 pub mod Speeds
 pub mod Unique
 pub mod Demands

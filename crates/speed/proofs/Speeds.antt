@@ -1,22 +1,24 @@
 -- The vehicle that holds the speed: what the definition gives is a record of the list, least, and first at a tie; and one record more. Assumes nothing.
 use Prim.Native.Nat.{ℕ, zero, suc, ◌+◌, ◌-◌, ◌≤◌, ◌<◌}
 use native.Mathlib.Nat.{not-suc-le-zero, le_of_suc-le-suc}
-use native.Mathlib.Numerals.{add-one}
 use native.Mathlib.Omega.{arith}
 use mathlib.Core.Path.{◌≡◌, refl, sym, ap, ap₂, ◌∙◌, subst}
 use mathlib.Core.Bool.{Bool, true, false, ◌&&◌, cond, and-false}
 use mathlib.Core.List.{List, [], ◌∷◌, ◌++◌}
 use mathlib.Core.Logic.{◌⊎◌, inl, inr}
-use borrow.Author.Tests.{lt-ltb, le-ltb, ltb-true, ltb-false, le-leb, lt-leb}
+use borrow.Author.Tests.{ltb-true, ltb-false, le-leb, lt-leb}
 use lib.Dec.{ltb, leb}
-use lib.ListN.{length, get_or, take, length-take, length-append, get_or-append}
-use lib.Seq.{take-suc, get_or-append-add}
+use lib.ListN.{length, get_or, take, drop, length-append, get_or-append}
+use lib.Seq.{get_or-append-add}
 use native.Mathlib.Decide.{dec_le, dec_lt}
 use Rattle.lists.specs.Words.{all}
-use Rattle.record.specs.Records.{record_count, records_of}
+use Rattle.std.specs.Prelude.{Some, None}
+use Rattle.std.specs.List.{fold, reduce}
+use Rattle.std.specs.Simd.{first_chunks}
+use Rattle.record.specs.Records.{record_count, records, records_of}
 use Rattle.record.proofs.Records.{record_at, length_records, records_at, record_length}
 use Rattle.lists.proofs.Lists.{all_not, all_from, length_zero}
-use Rattle.speed.specs.Speed.{first_with, byte20, slowest_of, whole_good, holds_the_speed, Holds}
+use Rattle.speed.specs.Speed.{first_with, byte20, slower, slowest_of, whole_good, holds_the_speed, Holds}
 
 -- ---- the first that has p
 first_at : (p : List ℕ → Bool) (rs : List (List ℕ)) (i : ℕ) → i < length rs → p (get_or rs i []) ≡ true → ((j : ℕ) → j < i → p (get_or rs j []) ≡ false)
@@ -39,18 +41,6 @@ holds_is rs r h =
     ∙ sym h.there
 
 -- ---- going through the records one by one
-abbrev slower : List ℕ → List ℕ → List ℕ
-slower best r = cond (ltb (byte20 r) (byte20 best)) r best
-
-unfoldable through : List ℕ → List (List ℕ) → List ℕ
-through best [] = best
-through best (r ∷ rs) = through (slower best r) rs
-
-through_append : (best : List ℕ) (xs ys : List (List ℕ)) → through best (xs ++ ys) ≡ through (through best xs) ys
-unfolding through
-through_append best [] ys = refl
-through_append best (x ∷ xs) ys = through_append (slower best x) xs ys
-
 -- a record in front that is faster
 faster_in_front : (b r x : List ℕ) (rs : List (List ℕ)) → byte20 r < byte20 b → Holds (r ∷ rs) x → Holds (b ∷ r ∷ rs) x
 faster_in_front b r x rs h k =
@@ -92,57 +82,48 @@ module _ (b r x : List ℕ) (rs : List (List ℕ)) (h : byte20 b ≤ byte20 r) (
         first = skip_first p e;
       }
 
-through_holds : (b : List ℕ) (rs : List (List ℕ)) → Holds (b ∷ rs) (through b rs)
-unfolding through
+through_holds : (b : List ℕ) (rs : List (List ℕ)) → Holds (b ∷ rs) (fold slower b rs)
 through_holds b [] =
     record {
       place = 0;
       within = omega arith;
       there = refl;
-      least = λ j. elim j as (λ i. i < length (b ∷ []) → byte20 (through b []) ≤ byte20 (get_or (b ∷ []) i [])) [ zero ↦ λ l. omega arith | suc i ↦ λ l. absurd (omega arith) ];
+      least = λ j. elim j as (λ i. i < length (b ∷ []) → byte20 (fold slower b []) ≤ byte20 (get_or (b ∷ []) i [])) [ zero ↦ λ l. omega arith | suc i ↦ λ l. absurd (omega arith) ];
       first = λ j l. absurd (not-suc-le-zero l);
     }
 through_holds b (r ∷ rs) = go (ltb (byte20 r) (byte20 b)) refl (through_holds r rs) (through_holds b rs)
   where
-    go : (t : Bool) → ltb (byte20 r) (byte20 b) ≡ t → Holds (r ∷ rs) (through r rs) → Holds (b ∷ rs) (through b rs) → Holds (b ∷ r ∷ rs) (through (cond (ltb (byte20 r) (byte20 b)) r b) rs)
-    go true e h k = rw e (faster_in_front b r (through r rs) rs (ltb-true (byte20 r) (byte20 b) e) h)
-    go false e h k = rw e (skip b r (through b rs) rs (ltb-false (byte20 r) (byte20 b) e) k k.place refl)
+    go : (t : Bool) → ltb (byte20 r) (byte20 b) ≡ t → Holds (r ∷ rs) (fold slower r rs) → Holds (b ∷ rs) (fold slower b rs) → Holds (b ∷ r ∷ rs) (fold slower (cond (ltb (byte20 r) (byte20 b)) r b) rs)
+    go true e h k = rw e (faster_in_front b r (fold slower r rs) rs (ltb-true (byte20 r) (byte20 b) e) h)
+    go false e h k = rw e (skip b r (fold slower b rs) rs (ltb-false (byte20 r) (byte20 b) e) k k.place refl)
 
-slowest_through : (r : List ℕ) (rs : List (List ℕ)) → slowest_of (r ∷ rs) ≡ through r rs
-slowest_through r rs = holds_is (r ∷ rs) (through r rs) (through_holds r rs)
+slowest_through : (r : List ℕ) (rs : List (List ℕ)) → slowest_of (r ∷ rs) ≡ fold slower r rs
+slowest_through r rs = holds_is (r ∷ rs) (fold slower r rs) (through_holds r rs)
 
 -- of records, what the definition gives holds their speed
 list_holds : (rs : List (List ℕ)) → 0 < length rs → Holds rs (slowest_of rs)
 list_holds [] h = absurd (not-suc-le-zero h)
 list_holds (r ∷ rs) h = subst (Holds (r ∷ rs)) (sym (slowest_through r rs)) (through_holds r rs)
 
--- ---- one record more
-slowest_snoc : (xs : List (List ℕ)) (r : List ℕ) → 0 < length xs → slowest_of (xs ++ (r ∷ [])) ≡ slower (slowest_of xs) r
-unfolding through
-slowest_snoc [] r h = absurd (not-suc-le-zero h)
-slowest_snoc (x ∷ xs) r h =
-    slowest_through x (xs ++ (r ∷ [])) ∙ through_append x xs (r ∷ []) ∙ ap (λ (b : List ℕ). slower b r) (sym (slowest_through x xs))
+-- what code makes of the records, one after the other
+pub some_slowest : (rs : List (List ℕ)) (r : List ℕ) → Some r ≡ reduce slower rs → r ≡ slowest_of rs
+some_slowest [] r e = cc
+some_slowest (x ∷ rs) r e = let f : r ≡ fold slower x rs = cc in f ∙ sym (slowest_through x rs)
 
-module _ (xs : List (List ℕ)) (k : ℕ) (best next : List ℕ) (some : 0 < k) (more : k < length xs) (so_far : best ≡ slowest_of (take k xs)) (record_is : next ≡ get_or xs k []) where
-  next_slowest : slowest_of (take (k + 1) xs) ≡ slower best next
-  next_slowest =
-      let l : 0 < length (take k xs) = omega (arith, length-take k xs) in
-      ap (λ (n : ℕ). slowest_of (take n xs)) (add-one k)
-      ∙ ap slowest_of (take-suc xs k [] more)
-      ∙ slowest_snoc (take k xs) (get_or xs k []) l
-      ∙ sym (ap₂ slower so_far record_is)
+pub none_slowest : (rs : List (List ℕ)) → None ≡ reduce slower rs → [] ≡ slowest_of rs
+unfolding slowest_of first_with
+none_slowest [] e = refl
+none_slowest (x ∷ rs) e = cc
 
-  pub next_taken : byte20 next < byte20 best → next ≡ slowest_of (take (k + 1) xs)
-  next_taken h = sym (next_slowest ∙ ap (λ (t : Bool). cond t next best) (lt-ltb (byte20 next) (byte20 best) h))
+-- its chunks are its records
+chunks_are : (k : ℕ) (bs : List ℕ) → first_chunks 24 k bs ≡ records k bs
+unfolding records
+chunks_are zero bs = refl
+chunks_are (suc k) bs = ap (λ (rs : List (List ℕ)). take 24 bs ∷ rs) (chunks_are k (drop 24 bs))
 
-  pub best_kept : byte20 best ≤ byte20 next → best ≡ slowest_of (take (k + 1) xs)
-  best_kept h = sym (next_slowest ∙ ap (λ (t : Bool). cond t next best) (le-ltb (byte20 next) (byte20 best) h))
-
--- a list of one
-pub slowest_alone : (xs : List (List ℕ)) → 0 < length xs → get_or xs 0 [] ≡ slowest_of (take 1 xs)
-unfolding through
-slowest_alone [] h = absurd (not-suc-le-zero h)
-slowest_alone (x ∷ xs) h = sym (slowest_through x [])
+pub chunked : (front back : List ℕ) {ahead behind : List (List ℕ)} → ahead ≡ first_chunks 24 (record_count front) front → behind ≡ first_chunks 24 (record_count back) back
+    → reduce slower (ahead ++ behind) ≡ reduce slower (records_of front ++ records_of back)
+chunked front back a b = ap₂ (λ (x y : List (List ℕ)). reduce slower (x ++ y)) (a ∙ chunks_are (record_count front) front) (b ∙ chunks_are (record_count back) back)
 
 -- ---- the records of two portions in order
 module _ (front back : List ℕ) (k : ℕ) where

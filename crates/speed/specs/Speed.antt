@@ -1,6 +1,6 @@
 -- Document 01: "The vehicle that holds the speed is the one with the least byte 20."
 use Rattle.std.specs.Prelude.{ℕ, ◌+◌, ◌≤◌, ◌<◌, ◌≡◌, Bool, ◌&&◌, cond, List, [], ◌∷◌, ◌++◌, length, get_or}
-use Rattle.lists.specs.Words.{◌at_most◌, all}
+use Rattle.lists.specs.Words.{◌at_most◌, ◌above◌, all}
 use Rattle.record.specs.Records.{record_count, records_of, is_whole}
 use Rattle.record.specs.Vehicles.{good}
 
@@ -11,6 +11,10 @@ first_with p (r ∷ rs) = cond (p r) r (first_with p rs)
 
 abbrev pub byte20 : List ℕ → ℕ
 byte20 r = get_or r 20 0
+
+-- the slower of a record and the next behind it, and the first where they are alike
+abbrev pub slower : List ℕ → List ℕ → List ℕ
+slower best next = cond (byte20 best above byte20 next) next best
 
 -- the least byte 20 of the records, the first in the train at a tie
 unfoldable pub slowest_of : List (List ℕ) → List ℕ

@@ -1,6 +1,4 @@
 -- `account::joining::add` meets its contract: figures within their ceilings add without wrapping. Assumes nothing.
-use Prim.Native.Nat.{max, ◌+◌}
-use mathlib.Core.Path.{ap, ◌∙◌}
 use Rattle.account.specs.Joining.{joining}
 use Rattle.account.proofs.joining.add.Goals as goal
 
