@@ -1,31 +1,48 @@
 -- Laws of the account as it travels. Assumes nothing.
-use Prim.Native.Nat.{ℕ, suc, ◌+◌, ◌*◌, ◌/◌, ◌%◌, ◌≤◌, ◌<◌}
+use Prim.Native.Nat.{ℕ, suc, ◌+◌, ◌*◌, ◌/◌, ◌%◌, ◌^◌, ◌≤◌, ◌<◌}
 use mathlib.Core.Path.{◌≡◌, refl, sym, ap, ap₂, subst, ◌∙◌}
-use mathlib.Core.Bool.{Bool, true, false, ◌&&◌, cond, and-true, and_assoc}
-use mathlib.Core.List.{List, [], ◌∷◌, map}
+use mathlib.Core.Bool.{Bool, true, false, ◌&&◌, cond}
+use mathlib.Core.List.{List, [], ◌∷◌, ◌++◌, append_assoc, map}
 use native.Mathlib.Nat.{div-div-eq-div-mul}
-use native.Mathlib.Numerals.{add-one}
 use native.Mathlib.Omega.{arith}
 use borrow.Author.Tests.{leb-true, leb-false, le-leb, lt-leb, eqb-true, eq-eqb, ne_eqb}
-use lib.ListN.{length, get_or, drop, set, drop_of_length-le}
-use lib.Seq.{drop-cons, sets}
+use lib.ListN.{length, get_or, take, drop}
+use lib.Seq.{drop-cons, drop-drop, sets}
+use borrow.Rule.Slice.PartMut.{put_mid}
+use Rattle.std.specs.Int.{w32, from_le_bytes, to_le_bytes}
+use Rattle.std.specs.List.{list_all}
+use Rattle.std.proofs.lemmas.List.Edits.{sets-eq}
 use Rattle.lists.specs.Words.{◌is◌, ◌at_most◌, all, Every}
 use Rattle.lists.specs.Numbers.{little_endian}
-use Rattle.lists.proofs.Lists.{both, chain, chain_all}
+use Rattle.lists.proofs.Lists.{both}
 use Rattle.account.specs.Ceilings.{within, Within}
 use Rattle.account.specs.declared.Account.{Account}
 use Rattle.account.proofs.Demands.{figure_at_lem}
-use Rattle.travel.specs.AccountRecords.{size, marks_in, unused_in, account_in, is_plain, is_account, above_ceiling, offered, figure_bytes, mark, setting_byte, five, record_of}
+use Rattle.travel.specs.AccountRecords.{size, figure_at, marks_in, unused_in, account_in, is_plain, is_account, above_ceiling, offered, figure_bytes, mark, setting_byte, five, record_of}
 
--- ---- a loop that asks every member from a place on
-module _ (p : ℕ → Bool) (xs : List ℕ) (i : ℕ) (asked : Bool) where
-  pub one_more : i < length xs → (asked && all p (drop i xs)) ≡ ((asked && p (get_or xs i 0)) && all p (drop (i + 1) xs))
-  unfolding all
-  one_more h = rw (add-one, drop-cons xs i 0 h) (sym (and_assoc asked (p (get_or xs i 0)) (all p (drop (suc i) xs))))
+-- ---- four bytes, as the library reads and writes them
+pub four_at : (bs : List ℕ) (s : ℕ) → s + 4 ≤ length bs → from_le_bytes w32 (get_or bs s 0 ∷ get_or bs (s + 1) 0 ∷ get_or bs (s + 2) 0 ∷ get_or bs (s + 3) 0 ∷ []) ≡ figure_at s bs
+unfolding little_endian
+four_at bs s h =
+    let one : s + 1 ≡ suc s = omega arith in
+    let two : s + 2 ≡ suc (suc s) = omega arith in
+    let three : s + 3 ≡ suc (suc (suc s)) = omega arith in
+    rw (one, two, three, drop-cons bs s 0 (omega arith), drop-cons bs (suc s) 0 (omega arith), drop-cons bs (suc (suc s)) 0 (omega arith), drop-cons bs (suc (suc (suc s))) 0 (omega arith))
+    (omega arith)
 
-  pub all_asked : length xs ≤ i → (asked && all p (drop i xs)) ≡ asked
-  unfolding all
-  all_asked h = rw (drop_of_length-le xs h) (and-true asked)
+pub four_put : (l : List ℕ) (at n x : ℕ) (ys : List ℕ) → n ≡ 4 → at + 4 ≤ length l → x < 2 ^ 32 → ys ≡ to_le_bytes w32 x → put_mid at n l ys ≡ sets l at (figure_bytes x)
+four_put l at n x ys e h fits same =
+    let last : x / 16777216 % 256 ≡ x / 16777216 = omega arith in
+    ap₂ (λ (n : ℕ) (ys : List ℕ). put_mid at n l ys) e (same ∙ ap (λ (b : ℕ). x % 256 ∷ x / 256 % 256 ∷ x / 65536 % 256 ∷ b ∷ []) last)
+    ∙ ap (λ (rest : List ℕ). take at l ++ (figure_bytes x ++ rest)) (drop-drop 4 at l)
+    ∙ sym (append_assoc (take at l) (figure_bytes x) (drop (at + 4) l))
+    ∙ sym (sets-eq (figure_bytes x) l at h)
+
+-- ---- every member, by the library's word
+pub each_is : (p : ℕ → Bool) (xs : List ℕ) → list_all p xs ≡ all p xs
+unfolding all
+each_is p [] = refl
+each_is p (x ∷ xs) = ap (λ (b : Bool). p x && b) (each_is p xs)
 
 -- ---- what bytes offer, by the code's tests
 module _ (bs : List ℕ) where
@@ -33,9 +50,9 @@ module _ (bs : List ℕ) where
   unfolding is_plain
   plain_short h = rw (ne_eqb (length bs) size h)
 
-  pub plain_long : length bs ≡ size → {rest : Bool} → rest ≡ all (λ u. u is 0) (unused_in bs) → (chain (λ m. m at_most 1) true (marks_in bs) && rest) ≡ is_plain bs
+  pub plain_long : length bs ≡ size → (list_all (λ m. m at_most 1) (marks_in bs) && list_all (λ u. u is 0) (unused_in bs)) ≡ is_plain bs
   unfolding is_plain
-  plain_long h e = rw (eq-eqb (length bs) size h) (ap₂ ◌&&◌ (chain_all (λ m. m at_most 1) true (marks_in bs)) e)
+  plain_long h = rw (eq-eqb (length bs) size h) (ap₂ ◌&&◌ (each_is (λ m. m at_most 1) (marks_in bs)) (each_is (λ u. u is 0) (unused_in bs)))
 
   pub long_plain : is_plain bs ≡ true → length bs ≡ size
   unfolding is_plain
@@ -47,13 +64,8 @@ module _ (bs : List ℕ) where
   unfolding offered
   offered_by_test b e = rw e
 
--- ---- a byte stored, and a figure, in equal lists
-module _ {l l' : List ℕ} (at : ℕ) where
-  pub stored : l ≡ l' → {x x' : ℕ} → x ≡ x' → set l at x ≡ set l' at x'
-  stored e f = λ i. set (e i) at (f i)
-
-  pub placed : (x : ℕ) → l ≡ l' → sets l at (figure_bytes x) ≡ sets l' at (figure_bytes x)
-  placed x e = ap (λ (k : List ℕ). sets k at (figure_bytes x)) e
+  pub offered_plain : (ys : List ℕ) → ys ≡ bs → is_plain ys ≡ true → account_in ys ≡ offered bs
+  offered_plain ys e t = ap account_in e ∙ offered_by_test true (ap is_plain (sym e) ∙ t)
 
 -- ---- reading what was written
 -- 7 is for what is no account

@@ -1,4 +1,5 @@
 -- `travel::account_in` meets its contract, figure by figure. Assumes nothing.
+use mathlib.Core.List.{[], ◌∷◌}
 use Rattle.travel.specs.AccountRecords.{account_in}
 use Rattle.travel.proofs.account_in.Goals as goal
 
@@ -27,7 +28,7 @@ returns c =
       rule17 = (account_in bs).rule17;
       rule18 = (account_in bs).rule18;
       slowest = c.figure-15.ensures i;
-      first = c.first_in-first.ensures i;
+      first = c.from.ensures i ∷ c.from-2.ensures i ∷ c.from-3.ensures i ∷ c.from-4.ensures i ∷ c.from-5.ensures i ∷ [];
       vlength = c.figure-16.ensures i;
       enginemmass = c.figure-17.ensures i;
       wagonvmass = c.figure-18.ensures i;
