@@ -1,44 +1,26 @@
--- `record::ranges::is_in_ranges` meets its contract: the fields of the rows before `f` are in their ranges. Assumes nothing.
-use mathlib.Core.Path.{◌≡◌, refl, sym, ◌∙◌}
+-- `record::ranges::is_in_ranges` meets its contract: each row is placed and in its range, of 24 bytes. Assumes nothing.
+use mathlib.Core.Path.{sym, ap, ◌∙◌}
+use mathlib.Core.Bool.{◌&&◌}
+use mathlib.Core.List.{List}
+use Prim.Native.Nat.{ℕ}
 use native.Mathlib.Omega.{arith}
-use lib.ListN.{length}
+use Rattle.std.proofs.Common.{rules, tests}
+use Rattle.std.proofs.lemmas.Iterator.{YieldsList-from_slice}
+use Rattle.std.proofs.lemmas.Iterator.Search.{all_from_yields_List}
 use Rattle.lists.specs.Words.{all}
-use Rattle.record.specs.Ranges.{field_good, table_of, placed}
-use Rattle.record.proofs.Tables.{rows_more, rows_end, rows_not, rows_at, short_bad, loose_bad, out_bad, each_in}
-use borrow.Author.Rules.{rules}
+use Rattle.record.specs.Ranges.{field_good, field_of, table_of, placed}
+use Rattle.record.proofs.Tables.{rows_all, short_bad, long_good}
 use Rattle.record.proofs.ranges.is_in_ranges.Goals as goal
 
-pub returns-then-bytes-ne-SIZE : goal.returns-then-bytes-ne-SIZE
-returns-then-bytes-ne-SIZE c =
-    let a = c.args in
-    sym (short_bad (table_of a.table.now) a.bytes.now (λ e. omega (arith, c.if-bytes-ne-SIZE.true)))
+pub returns-in-Some : goal.returns-in-Some
+returns-in-Some c =
+    let r = c.in-Some.bytes.now in
+    let rows = c.args.table.now in
+    let whole = c.in-Some.ensures.cases in
+    all_from_yields_List (λ row. placed (field_of row) && field_good r (field_of row)) _ _ c.all.result c.all.ensures.ran (YieldsList-from_slice rows cc) (λ x b q k. search (rules, tests))
+    ∙ rows_all (λ d. placed d && field_good r d) rows
+    ∙ ap (λ (x : List ℕ). all (λ d. placed d && field_good x d) (table_of rows)) whole.same
+    ∙ long_good (table_of rows) c.args.bytes.now (omega (arith, whole.long))
 
-pub returns-then-not-are_placed : goal.returns-then-not-are_placed
-returns-then-not-are_placed c = sym (loose_bad _ _ (sym c.are_placed.ensures ∙ c.if-not-are_placed.true))
-
-pub loop-f-init : goal.loop-f-init
-unfolding all
-loop-f-init c = (omega arith, refl)
-
-pub is_in_range-requires : goal.is_in_range-requires
-is_in_range-requires c =
-    let t = c.args.table.now in
-    (rows_at placed t c.loop-f.f c.loop-f-test.true (sym c.are_placed.ensures ∙ c.if-not-are_placed.false), search rules)
-
-pub returns-then-not-is_in_range : goal.returns-then-not-is_in_range
-returns-then-not-is_in_range c =
-    let a = c.args in
-    sym (out_bad _ a.bytes.now (rows_not (field_good a.bytes.now) a.table.now c.loop-f.f c.loop-f-test.true (sym c.is_in_range.ensures ∙ c.if-not-is_in_range.true)))
-
-pub loop-f-preserved : goal.loop-f-preserved
-loop-f-preserved c =
-    let a = c.args in
-    let e = sym c.is_in_range.ensures ∙ c.if-not-is_in_range.false in
-    (omega arith, rows_more (field_good a.bytes.now) a.table.now c.loop-f.f c.loop-f-test.true c.loop-f.invariant.1 e)
-
-pub returns : goal.returns
-returns c =
-    let a = c.args in
-    let end : c.loop-f.f ≡ length a.table.now = omega arith in
-    let t = sym c.are_placed.ensures ∙ c.if-not-are_placed.false in
-    sym (each_in _ a.bytes.now t (omega (arith, c.if-bytes-ne-SIZE.false)) (rows_end (field_good a.bytes.now) a.table.now c.loop-f.f end c.loop-f.invariant.1))
+pub returns-in-None : goal.returns-in-None
+returns-in-None c = sym (short_bad (table_of c.args.table.now) c.args.bytes.now (λ e. omega (arith, e, c.in-None.ensures.cases)))

@@ -1,28 +1,23 @@
--- `record::vehicle::leading_with` meets its contract: the records before `k` have the byte. Assumes nothing.
-use native.Mathlib.Omega.{arith}
-use mathlib.Core.Path.{◌≡◌, refl}
-use Rattle.lists.specs.Words.{all}
-use Rattle.record.specs.Records.{record_count, records}
-use Rattle.record.proofs.Vehicles.{front_more, front_ends, front_whole}
+-- `record::vehicle::leading_with` meets its contract: the records from the first on that have the byte. Assumes nothing.
+use mathlib.Core.Path.{ap, refl, ◌∙◌}
+use Rattle.std.proofs.Common.{rules, tests}
+use Rattle.std.proofs.lemmas.Iterator.{YieldsList-from_slice}
+use Rattle.std.proofs.lemmas.Iterator.Consumers.{count_from_yields_List}
+use Rattle.std.proofs.lemmas.Iterator.Search.{YieldsList-from_take_while}
+use Rattle.std.proofs.lemmas.List.Folds.{length-prefix_len}
+use Rattle.lists.specs.Words.{leading}
+use Rattle.lists.proofs.Lists.{leading_prefix}
+use Rattle.record.specs.Records.{record_count, has_byte}
+use Rattle.record.proofs.Records.{chunks_records}
 use Rattle.record.proofs.vehicle.leading_with.Goals as goal
-
-pub loop-k-init : goal.loop-k-init
-unfolding all records
-loop-k-init c = (omega arith, refl)
-
-pub returns-then-records-k : goal.returns-then-records-k
-returns-then-records-k c =
-    let x = c.args in
-    front_ends x.at x.x x.records.now _ c.loop-k.k c.requires c.loop-k-test.true c.loop-k.invariant.1 c.if-records-k.true
-
-pub loop-k-preserved : goal.loop-k-preserved
-loop-k-preserved c =
-    let x = c.args in
-    (omega arith, front_more x.at x.x x.records.now c.loop-k.k c.requires c.loop-k.invariant.1 c.if-records-k.false)
 
 pub returns : goal.returns
 returns c =
-    let x = c.args in
-    let end : c.loop-k.k ≡ record_count x.records.now = omega arith in
-    let t = c.loop-k.invariant.1 in
-    front_whole x.at x.x x.records.now _ (rw end at t)
+    let bs = c.args.records.now in
+    let test = has_byte c.args.at c.args.x in
+    let chunks = c.as_chunks.result.0.now in
+    count_from_yields_List c.take_while.result _ c.count.ensures.ran
+    (YieldsList-from_take_while _ (has_byte c.args.at c.args.x) (YieldsList-from_slice c.as_chunks.result.0.now cc) c.take_while.ensures.closure c.take_while.ensures.done (λ x b q k. search (rules, tests)))
+    ∙ length-prefix_len (has_byte c.args.at c.args.x) c.as_chunks.result.0.now
+    ∙ leading_prefix (has_byte c.args.at c.args.x) (has_byte c.args.at c.args.x) (λ r. refl) c.as_chunks.result.0.now
+    ∙ ap (leading (has_byte c.args.at c.args.x)) (c.as_chunks.ensures.front ∙ chunks_records (record_count bs) bs)
