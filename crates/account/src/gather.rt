@@ -1,5 +1,5 @@
 // What the loop over a portion gathers of the records so far.
-ghost use Rattle.std.specs.Prelude.{◌≡◌, [], ◌≤◌, length, set};
+ghost use Rattle.std.specs.Prelude.{◌≡◌, [], ◌≤◌, set};
 ghost use Rattle.record.specs.Records.{record_count};
 ghost use Rattle.record.specs.Vehicles.{vehicles};
 ghost use Rattle.account.specs.Accounts.{account_of};
@@ -20,16 +20,6 @@ pub(crate) struct Sums {
     pub(crate) length: u32,
 }
 
-// Sets the setting at place `i`, where it is one of the first five.
-fn set_at(first: &mut [u32; 5], i: usize, setting: u32)
-    requires { length first.old ≡ 5 }
-    ensures { first.new ≡ set first.old i setting }
-{
-    if i < 5 {
-        first[i] = setting;
-    }
-}
-
 impl Sums {
     const NONE: Sums = Sums {
         count: 0,
@@ -39,6 +29,7 @@ impl Sums {
         length: 0,
     };
 
+    #[tactic(auto, unfolding(crate::specs::Gathering::sums_with))]
     fn add(&mut self, v: Vehicle)
         requires { SumsRoom self.old v }
         ensures { self.new ≡ sums_with self.old v }
@@ -51,6 +42,7 @@ impl Sums {
     }
 }
 
+// The figures of the records so far.
 #[derive(Clone, Copy)]
 pub(crate) struct Gathered {
     // isolated, M, V, R
@@ -73,7 +65,17 @@ pub(crate) struct Gathered {
     pub(crate) enginenotm: bool,
 }
 
+// Sets the setting at place `i`, where it is one of the first five.
+fn set_at(first: &mut [u32; 5], i: usize, setting: u32)
+    ensures { first.new ≡ set first.old i setting }
+{
+    if i < 5 {
+        first[i] = setting;
+    }
+}
+
 impl Gathered {
+    #[tactic(auto, unfolding(crate::specs::Gathering::gathered, crate::specs::Gathering::sums_of))]
     pub(crate) fn new() -> Gathered
         ensures { result ≡ gathered [] }
     {
@@ -127,7 +129,7 @@ impl Gathered {
         self.enginenotm |= engine & !set_to_m;
     }
 
-    // The account of the portion that this is gathered of. The runs in front are counted apart: with them in the loop it takes a half longer.
+    // The account of the portion that this is gathered of. The runs in front are found apart, where it is read no further than they go.
     pub(crate) fn account(self, portion: &[u8]) -> Account
         requires portion_bound { record_count portion.now ≤ 200 }
         requires each { Every GoodHauled (vehicles portion.now) }

@@ -26,6 +26,7 @@ fn fill_first(n: u32, left: [u32; 5], right: [u32; 5]) -> [u32; 5]
     first
 }
 
+#[tactic(auto, unfolding(crate::specs::Joining::joining))]
 pub(crate) fn add(left: Account, right: Account) -> Account
     requires left_within { Within left }
     requires right_within { Within right }

@@ -8,15 +8,15 @@ use mathlib.Core.List.{List, [], ◌∷◌, ◌++◌}
 use mathlib.Core.Logic.{◌⊎◌, inl, inr}
 use borrow.Author.Tests.{ltb-true, ltb-false, le-leb, lt-leb}
 use lib.Dec.{ltb, leb}
-use lib.ListN.{length, get_or, take, drop, length-append, get_or-append}
+use lib.ListN.{length, get_or, length-append, get_or-append}
 use lib.Seq.{get_or-append-add}
 use native.Mathlib.Decide.{dec_le, dec_lt}
 use Rattle.lists.specs.Words.{all}
 use Rattle.std.specs.Prelude.{Some, None}
 use Rattle.std.specs.List.{fold, reduce}
 use Rattle.std.specs.Simd.{first_chunks}
-use Rattle.record.specs.Records.{record_count, records, records_of}
-use Rattle.record.proofs.Records.{record_at, length_records, records_at, record_length}
+use Rattle.record.specs.Records.{record_count, records_of}
+use Rattle.record.proofs.Records.{chunks_records, record_at, length_records, records_at, record_length}
 use Rattle.lists.proofs.Lists.{all_not, all_from, length_zero}
 use Rattle.speed.specs.Speed.{first_with, byte20, slower, slowest_of, whole_good, holds_the_speed, Holds}
 
@@ -115,15 +115,10 @@ unfolding slowest_of first_with
 none_slowest [] e = refl
 none_slowest (x ∷ rs) e = cc
 
--- its chunks are its records
-chunks_are : (k : ℕ) (bs : List ℕ) → first_chunks 24 k bs ≡ records k bs
-unfolding records
-chunks_are zero bs = refl
-chunks_are (suc k) bs = ap (λ (rs : List (List ℕ)). take 24 bs ∷ rs) (chunks_are k (drop 24 bs))
-
+-- of what code cuts into chunks, which are the records
 pub chunked : (front back : List ℕ) {ahead behind : List (List ℕ)} → ahead ≡ first_chunks 24 (record_count front) front → behind ≡ first_chunks 24 (record_count back) back
     → reduce slower (ahead ++ behind) ≡ reduce slower (records_of front ++ records_of back)
-chunked front back a b = ap₂ (λ (x y : List (List ℕ)). reduce slower (x ++ y)) (a ∙ chunks_are (record_count front) front) (b ∙ chunks_are (record_count back) back)
+chunked front back a b = ap₂ (λ (x y : List (List ℕ)). reduce slower (x ++ y)) (a ∙ chunks_records (record_count front) front) (b ∙ chunks_records (record_count back) back)
 
 -- ---- the records of two portions in order
 module _ (front back : List ℕ) (k : ℕ) where
