@@ -20,11 +20,11 @@ use Rattle.rules.specs.Grants.{offer_of, granted_of, decision_of}
 use Rattle.sheets.specs.Sheets.{sheet_length, figures_of, sheet_of}
 use Rattle.sheets.specs.Cases.{train_a, order_a, sheet_a}
 use Rattle.account.specs.Ceilings.{within}
-use Rattle.judge.specs.Answers.{number_of, place_of, train_refusals, train_answer, train_sheet, account_refusals, sheet_for}
+use Rattle.judge.specs.Answers.{answer_number, answer_place, train_refusals, train_answer, train_sheet, account_refusals, sheet_for}
 use Rattle.judge.specs.Cases.{answers, expected}
 
 -- number 0, place 0, and the 32 bytes that document 01 prints
-pub case_a : (number_of (train_answer train_a order_a (sheet_length CrossBorder)) ≡ 0) × (place_of (train_answer train_a order_a (sheet_length CrossBorder)) ≡ 0) × (train_sheet train_a order_a (replicate (sheet_length CrossBorder) 0) ≡ sheet_a)
+pub case_a : (answer_number (train_answer train_a order_a (sheet_length CrossBorder)) ≡ 0) × (answer_place (train_answer train_a order_a (sheet_length CrossBorder)) ≡ 0) × (train_sheet train_a order_a (replicate (sheet_length CrossBorder) 0) ≡ sheet_a)
 unfolding train_refusals sheet_for all good closes good_order figures_of decision_of granted_of offer_of facts_of order_of vehicle records little_endian cross_border broken_by margin_for braked_of terms_of margin_of fourfold line_speed speed_of percentage_of sheet_of book_of
 case_a = (refl, refl, refl)
 

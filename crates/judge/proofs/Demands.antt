@@ -6,19 +6,21 @@ use mathlib.Core.Logic.{◌⊎◌}
 use mathlib.Core.Bool.{true, false}
 use mathlib.Core.List.{List, [], ◌∷◌, ◌++◌, map}
 use lib.ListN.{length, drop}
-use Rattle.lists.specs.Words.{all, leading, Every, Case, first_of, case_at, First}
+use Rattle.std.specs.Prelude.{Result, Ok, Err, is_ok, IsOk, ⊤}
+use Rattle.std.specs.Result.{result_and}
+use Rattle.lists.specs.Words.{◌is◌, all, leading, Every, Case, case_at, First}
+use Rattle.lists.specs.Refusals.{answered}
 use Rattle.record.specs.Records.{records_of}
 use Rattle.record.specs.Vehicles.{good, vehicles, is_working}
 use Rattle.record.specs.Mistyped.{Mistyped}
 use Rattle.record.specs.declared.vehicle.Vehicle.{Vehicle}
-use Rattle.lists.proofs.Cases.{first_applies, none_applies, first_or_none}
+use Rattle.lists.proofs.Cases.{first_or_none}
+use Rattle.lists.proofs.Refusals.{first_refuses, none_refuses, none_of}
 use Rattle.account.specs.Accounts.{account_of}
 use Rattle.account.specs.Portions.{accounted}
 use Rattle.account.specs.Groupings.{Grouping, uncut, joined_bytes, BetweenRecords, GoodPortion, NoneRefused}
 use Rattle.account.specs.declared.Account.{Account}
-use Rattle.account.specs.declared.Accounted.{Accounted}
-use Rattle.account.specs.declared.Answer.TheVariants.{Done as Accepted}
-use Rattle.account.proofs.Demands.{any_grouping_of_bytes, any_grouping_done, portion_done_exactly}
+use Rattle.account.proofs.Demands.{any_grouping_done, portion_done_exactly}
 use Rattle.record.specs.Ranges.{in_ranges}
 use Rattle.order.specs.Orders.{cross_border_fields, fields_of, good_order, order_of}
 use Rattle.order.specs.declared.Book.{Book}
@@ -36,18 +38,15 @@ use Rattle.rules.proofs.Demands.{train_not_longer, account_not_longer}
 use Rattle.books.specs.Books.{book_of}
 use Rattle.sheets.specs.Sheets.{sheet_length, sheet_of}
 use Rattle.sheets.proofs.Demands.{sheet_kept}
-use Rattle.judge.specs.Answers.{number_of, place_of, is_done, order_tests, order_refusals, record_refusals, train_shape, train_around, train_refusals, train_answer, train_sheet, engine_refusals, engine_shape, account_around, account_refusals, account_answer, account_sheet, sheet_for, written}
-use Rattle.judge.specs.Judging.{Refusing, lent_as, train_judged, account_judged, judged_by}
+use Rattle.judge.specs.Answers.{number_of, place_of, answer_number, order_tests, order_refusals, record_refusals, train_shape, train_around, train_refusals, train_answer, train_sheet, engine_refusals, engine_shape, account_around, account_refusals, account_answer, account_sheet, sheet_for, written}
+use Rattle.judge.specs.Judging.{train_judged, account_judged}
 use Rattle.judge.specs.Shown.{Shows}
 use Rattle.judge.specs.Good.{GoodLent, GoodTrain, GoodWithAccount}
-use Rattle.judge.specs.declared.Answer.{Answer}
-use Rattle.judge.specs.declared.Answer.TheVariants.{Done, BadField}
+use Rattle.judge.specs.declared.Refusal.{Refusal}
+use Rattle.judge.specs.declared.Refusal.TheVariants.{NotWhole, TooMany, BadField, BadOrder, ShortSheet, AboveCeiling, NotWorking, WorkingBehind, ManyEngines, NothingHauled}
 use Rattle.judge.proofs.Bounds.{bounded_train, bounded_account}
-use Rattle.judge.proofs.Answers.{done_is, all_passed, around_lent, around_groups, lent_refused, none_of}
-use Rattle.judge.proofs.Engines as engines
-use Rattle.judge.proofs.Engines.{engine_answer, engines_refusing}
-use Rattle.judge.proofs.Trains as trains
-use Rattle.judge.proofs.Trains.{record_answer, records_refusing}
+use Rattle.judge.proofs.Answers.{ok_is, all_passed, around_groups, around_value}
+use Rattle.judge.proofs.Answers as answers
 use Rattle.judge.proofs.Joint.{answers_same, facts_joint}
 use Rattle.judge.proofs.Sheets as sheets
 use Rattle.judge.proofs.Sheets.{sheet_long}
@@ -57,125 +56,131 @@ use Rattle.judge.proofs.Exactly.{lent_good, good_lent, train_good, good_train, a
 
 -- ---- demand 1: every input is answered
 -- the refusals' numbers in document 01's two orders, and their places
-pub train_numbers : (bs order : List ℕ) (room : ℕ) → map (λ (r : Case Answer). number_of r.gives) (train_refusals bs order room) ≡ 1 ∷ 2 ∷ 3 ∷ 4 ∷ 5 ∷ 11 ∷ 12 ∷ 13 ∷ 14 ∷ []
+pub train_numbers : (bs order : List ℕ) (room : ℕ) → map (λ (r : Case Refusal). number_of r.gives) (train_refusals bs order room) ≡ 1 ∷ 2 ∷ 3 ∷ 4 ∷ 5 ∷ 11 ∷ 12 ∷ 13 ∷ 14 ∷ []
 unfolding train_refusals
 train_numbers bs order room = refl
 
-pub train_places : (bs order : List ℕ) (room : ℕ) → map (λ (r : Case Answer). place_of r.gives) (train_refusals bs order room) ≡ 0 ∷ 0 ∷ leading good (records_of bs) ∷ 0 ∷ 0 ∷ 0 ∷ 0 ∷ 0 ∷ 0 ∷ []
+pub train_places : (bs order : List ℕ) (room : ℕ) → map (λ (r : Case Refusal). place_of r.gives) (train_refusals bs order room) ≡ 0 ∷ 0 ∷ leading good (records_of bs) ∷ 0 ∷ 0 ∷ 0 ∷ 0 ∷ 0 ∷ 0 ∷ []
 unfolding train_refusals
 train_places bs order room = refl
 
 pub account_numbers : (bs : List ℕ) (hauled : Account) (order : List ℕ) (room : ℕ)
-    → map (λ (r : Case Answer). number_of r.gives) (account_refusals bs hauled order room) ≡ 1 ∷ 7 ∷ 2 ∷ 3 ∷ 4 ∷ 5 ∷ 11 ∷ 13 ∷ 14 ∷ []
+    → map (λ (r : Case Refusal). number_of r.gives) (account_refusals bs hauled order room) ≡ 1 ∷ 7 ∷ 2 ∷ 3 ∷ 4 ∷ 5 ∷ 11 ∷ 13 ∷ 14 ∷ []
 unfolding account_refusals
 account_numbers bs hauled order room = refl
 
 pub account_places : (bs : List ℕ) (hauled : Account) (order : List ℕ) (room : ℕ)
-    → map (λ (r : Case Answer). place_of r.gives) (account_refusals bs hauled order room) ≡ 0 ∷ 0 ∷ 0 ∷ leading good (records_of bs) ∷ 0 ∷ 0 ∷ 0 ∷ 0 ∷ 0 ∷ []
+    → map (λ (r : Case Refusal). place_of r.gives) (account_refusals bs hauled order room) ≡ 0 ∷ 0 ∷ 0 ∷ leading good (records_of bs) ∷ 0 ∷ 0 ∷ 0 ∷ 0 ∷ 0 ∷ []
 unfolding account_refusals
 account_places bs hauled order room = refl
 
 -- each is given exactly when it applies and no earlier one does
-pub answered_in_order : (rs : List (Case Answer)) (f : First Done rs) → first_of Done rs ≡ (case_at Done rs f.place).gives
-answered_in_order rs f = first_applies Done rs f.place f.within f.applies f.earlier
+pub answered_in_order : (other : Refusal) (rs : List (Case Refusal)) (f : First other rs) → answered rs ≡ Err (case_at other rs f.place).gives
+answered_in_order other rs f = first_refuses other rs f.place f.within f.applies f.earlier
 
 -- and there always is one that does so, or none applies
-pub first_or_done : (rs : List (Case Answer)) → First Done rs ⊎ Every (λ r. r.applies ≡ false) rs
-first_or_done = first_or_none Done
+pub first_or_done : (other : Refusal) (rs : List (Case Refusal)) → First other rs ⊎ Every (λ r. r.applies ≡ false) rs
+first_or_done = first_or_none
 
 -- 0 is the number of the answer that is done, and of no other
-pub done_only : (answer : Answer) → is_done answer ≡ true → answer ≡ Done
-done_only = done_is
+pub done_number : {T : Type 0} (answer : Result T Refusal) → (answer_number answer is 0) ≡ is_ok answer
+done_number (Ok x) = refl
+done_number (Err r) = refused_number r
+  where
+    refused_number : (r : Refusal) → (number_of r is 0) ≡ false
+    refused_number NotWhole = refl
+    refused_number TooMany = refl
+    refused_number (BadField place) = refl
+    refused_number (BadOrder place) = refl
+    refused_number ShortSheet = refl
+    refused_number AboveCeiling = refl
+    refused_number NotWorking = refl
+    refused_number WorkingBehind = refl
+    refused_number ManyEngines = refl
+    refused_number NothingHauled = refl
 
-pub done_when_none_applies : (rs : List (Case Answer)) → Every (λ r. r.applies ≡ false) rs → first_of Done rs ≡ Done
-done_when_none_applies = none_applies Done
+pub done_only : (answer : Result ⊤ Refusal) → (answer_number answer is 0) ≡ true → answer ≡ Ok tt
+done_only answer e = ok_is answer (sym (done_number answer) ∙ e)
+
+pub done_when_none_applies : (rs : List (Case Refusal)) → Every (λ r. r.applies ≡ false) rs → answered rs ≡ Ok tt
+done_when_none_applies = none_refuses
 
 -- a train is done exactly when it is good and nothing of what is lent beside it is refused; so are engines with an account
-pub train_done_around : (bs : List ℕ) (lent : List (Case Answer)) → Refusing lent
-    → (first_of Done (train_around bs lent) ≡ Done → GoodTrain bs × Every (λ r. r.applies ≡ false) lent)
-    × (GoodTrain bs → Every (λ r. r.applies ≡ false) lent → first_of Done (train_around bs lent) ≡ Done)
-train_done_around bs lent n = (train_good bs lent n, good_train bs lent)
+pub train_done_around : (bs : List ℕ) (lent : List (Case Refusal))
+    → (answered (train_around bs lent) ≡ Ok tt → GoodTrain bs × Every (λ r. r.applies ≡ false) lent)
+    × (GoodTrain bs → Every (λ r. r.applies ≡ false) lent → answered (train_around bs lent) ≡ Ok tt)
+train_done_around bs lent = (train_good bs lent, good_train bs lent)
 
-pub account_done_around : (bs : List ℕ) (hauled : Account) (lent : List (Case Answer)) → Refusing lent
-    → (first_of Done (account_around bs hauled lent) ≡ Done → GoodWithAccount bs hauled × Every (λ r. r.applies ≡ false) lent)
-    × (GoodWithAccount bs hauled → Every (λ r. r.applies ≡ false) lent → first_of Done (account_around bs hauled lent) ≡ Done)
-account_done_around bs hauled lent n = (account_good bs hauled lent n, good_account bs hauled lent)
+pub account_done_around : (bs : List ℕ) (hauled : Account) (lent : List (Case Refusal))
+    → (answered (account_around bs hauled lent) ≡ Ok tt → GoodWithAccount bs hauled × Every (λ r. r.applies ≡ false) lent)
+    × (GoodWithAccount bs hauled → Every (λ r. r.applies ≡ false) lent → answered (account_around bs hauled lent) ≡ Ok tt)
+account_done_around bs hauled lent = (account_good bs hauled lent, good_account bs hauled lent)
 
 -- so for a sheet exactly when the order is good and there is room too
 pub train_done_exactly : (bs order : List ℕ) (room : ℕ)
-    → (train_answer bs order room ≡ Done → GoodTrain bs × GoodLent order room)
-    × (GoodTrain bs → GoodLent order room → train_answer bs order room ≡ Done)
+    → (train_answer bs order room ≡ Ok tt → GoodTrain bs × GoodLent order room)
+    × (GoodTrain bs → GoodLent order room → train_answer bs order room ≡ Ok tt)
 unfolding train_refusals
 train_done_exactly bs order room = (
-  λ done. let g = train_good bs (order_refusals order room) (refl, (refl, tt)) done in (g.0, lent_good order room g.1),
+  λ done. let g = train_good bs (order_refusals order room) done in (g.0, lent_good order room g.1),
   λ g l. good_train bs (order_refusals order room) g (good_lent order room l),
 )
 
 pub account_done_exactly : (bs : List ℕ) (hauled : Account) (order : List ℕ) (room : ℕ)
-    → (account_answer bs hauled order room ≡ Done → GoodWithAccount bs hauled × GoodLent order room)
-    × (GoodWithAccount bs hauled → GoodLent order room → account_answer bs hauled order room ≡ Done)
+    → (account_answer bs hauled order room ≡ Ok tt → GoodWithAccount bs hauled × GoodLent order room)
+    × (GoodWithAccount bs hauled → GoodLent order room → account_answer bs hauled order room ≡ Ok tt)
 unfolding account_refusals
 account_done_exactly bs hauled order room = (
-  λ done. let g = account_good bs hauled (order_refusals order room) (refl, (refl, tt)) done in (g.0, lent_good order room g.1),
+  λ done. let g = account_good bs hauled (order_refusals order room) done in (g.0, lent_good order room g.1),
   λ g l. good_account bs hauled (order_refusals order room) g (good_lent order room l),
 )
 
 -- what is lent beside a train, answered first and given as one answer, changes nothing
-pub train_judged_lem : (bs : List ℕ) (lent : List (Case Answer)) → Refusing lent → train_judged bs (first_of Done lent) ≡ judged_by (first_of Done (train_around bs lent)) (facts_of (vehicles bs))
+pub train_judged_lem : (bs : List ℕ) (lent : List (Case Refusal)) → train_judged bs (answered lent) ≡ result_and (answered (train_around bs lent)) (Ok (facts_of (vehicles bs)))
 unfolding train_judged
-train_judged_lem bs lent n = ap (λ (a : Answer). judged_by a (facts_of (vehicles bs))) (sym (around_lent (record_refusals bs) lent (train_shape (vehicles bs)) (records_refusing bs) n))
+train_judged_lem bs lent = around_value (record_refusals bs) lent (train_shape (vehicles bs)) (facts_of (vehicles bs))
 
-pub account_judged_lem : (bs : List ℕ) (hauled : Account) (lent : List (Case Answer)) → Refusing lent
-    → account_judged bs hauled (first_of Done lent) ≡ judged_by (first_of Done (account_around bs hauled lent)) (facts_beside (vehicles bs) hauled)
+pub account_judged_lem : (bs : List ℕ) (hauled : Account) (lent : List (Case Refusal))
+    → account_judged bs hauled (answered lent) ≡ result_and (answered (account_around bs hauled lent)) (Ok (facts_beside (vehicles bs) hauled))
 unfolding account_judged
-account_judged_lem bs hauled lent n =
-    ap (λ (a : Answer). judged_by a (facts_beside (vehicles bs) hauled)) (sym (around_lent (engine_refusals bs hauled) lent (engine_shape (vehicles bs) hauled) (engines_refusing bs hauled) n))
+account_judged_lem bs hauled lent = around_value (engine_refusals bs hauled) lent (engine_shape (vehicles bs) hauled) (facts_beside (vehicles bs) hauled)
 
 -- and what answers the same gives the same
-pub train_around_same : (bs : List ℕ) (lent other : List (Case Answer)) → Refusing lent → Refusing other → first_of Done lent ≡ first_of Done other
-    → first_of Done (train_around bs lent) ≡ first_of Done (train_around bs other)
-train_around_same bs lent other n m e =
-    around_lent (record_refusals bs) lent (train_shape (vehicles bs)) (records_refusing bs) n
-    ∙ ap (λ (a : Answer). first_of Done (train_around bs (lent_as a))) e
-    ∙ sym (around_lent (record_refusals bs) other (train_shape (vehicles bs)) (records_refusing bs) m)
+pub train_around_same : (bs : List ℕ) (lent other : List (Case Refusal)) → answered lent ≡ answered other → answered (train_around bs lent) ≡ answered (train_around bs other)
+train_around_same bs lent other e =
+    around_groups (record_refusals bs) lent (train_shape (vehicles bs))
+    ∙ ap (λ (a : Result ⊤ Refusal). result_and (answered (record_refusals bs)) (result_and a (answered (train_shape (vehicles bs))))) e
+    ∙ sym (around_groups (record_refusals bs) other (train_shape (vehicles bs)))
 
-pub account_around_same : (bs : List ℕ) (hauled : Account) (lent other : List (Case Answer)) → Refusing lent → Refusing other → first_of Done lent ≡ first_of Done other
-    → first_of Done (account_around bs hauled lent) ≡ first_of Done (account_around bs hauled other)
-account_around_same bs hauled lent other n m e =
-    around_lent (engine_refusals bs hauled) lent (engine_shape (vehicles bs) hauled) (engines_refusing bs hauled) n
-    ∙ ap (λ (a : Answer). first_of Done (account_around bs hauled (lent_as a))) e
-    ∙ sym (around_lent (engine_refusals bs hauled) other (engine_shape (vehicles bs) hauled) (engines_refusing bs hauled) m)
+pub account_around_same : (bs : List ℕ) (hauled : Account) (lent other : List (Case Refusal)) → answered lent ≡ answered other
+    → answered (account_around bs hauled lent) ≡ answered (account_around bs hauled other)
+account_around_same bs hauled lent other e =
+    around_groups (engine_refusals bs hauled) lent (engine_shape (vehicles bs) hauled)
+    ∙ ap (λ (a : Result ⊤ Refusal). result_and (answered (engine_refusals bs hauled)) (result_and a (answered (engine_shape (vehicles bs) hauled)))) e
+    ∙ sym (around_groups (engine_refusals bs hauled) other (engine_shape (vehicles bs) hauled))
 
 -- where the whole is done, nothing of what is lent is refused
-pub train_lent : (bs : List ℕ) (lent : List (Case Answer)) → Refusing lent → is_done (first_of Done (train_around bs lent)) ≡ true → Every (λ r. r.applies ≡ false) lent
-train_lent bs lent n d =
-    none_of lent n
-    (all_passed (first_of Done (train_around bs lent)) (record_answer bs) (first_of Done lent) (trains.shape_answer bs)
-    (around_lent (record_refusals bs) lent (train_shape (vehicles bs)) (records_refusing bs) n ∙ around_groups (record_refusals bs) (first_of Done lent) (train_shape (vehicles bs)) (records_refusing bs))
-    d).1
+pub train_lent : (bs : List ℕ) (lent : List (Case Refusal)) → is_ok (answered (train_around bs lent)) ≡ true → Every (λ r. r.applies ≡ false) lent
+train_lent bs lent d = none_of lent (all_passed (record_refusals bs) lent (train_shape (vehicles bs)) d).1
 
-pub account_lent : (bs : List ℕ) (hauled : Account) (lent : List (Case Answer)) → Refusing lent → is_done (first_of Done (account_around bs hauled lent)) ≡ true → Every (λ r. r.applies ≡ false) lent
-account_lent bs hauled lent n d =
-    none_of lent n
-    (all_passed (first_of Done (account_around bs hauled lent)) (engine_answer bs hauled) (first_of Done lent) (engines.shape_answer bs hauled)
-    (around_lent (engine_refusals bs hauled) lent (engine_shape (vehicles bs) hauled) (engines_refusing bs hauled) n ∙ around_groups (engine_refusals bs hauled) (first_of Done lent) (engine_shape (vehicles bs) hauled) (engines_refusing bs hauled))
-    d).1
+pub account_lent : (bs : List ℕ) (hauled : Account) (lent : List (Case Refusal)) → is_ok (answered (account_around bs hauled lent)) ≡ true → Every (λ r. r.applies ≡ false) lent
+account_lent bs hauled lent d = none_of lent (all_passed (engine_refusals bs hauled) lent (engine_shape (vehicles bs) hauled) d).1
 
 -- and where nothing before applies and something of what is lent is refused, that is the answer
-pub train_lent_refused : (bs : List ℕ) (lent : List (Case Answer)) → Refusing lent → Every (λ r. r.applies ≡ false) (record_refusals bs) → is_done (first_of Done lent) ≡ false
-    → first_of Done (train_around bs lent) ≡ first_of Done lent
-train_lent_refused bs lent n none refused = lent_refused (record_refusals bs) lent (train_shape (vehicles bs)) (records_refusing bs) n none refused
+pub train_lent_refused : (bs : List ℕ) (lent : List (Case Refusal)) → Every (λ r. r.applies ≡ false) (record_refusals bs) → is_ok (answered lent) ≡ false
+    → answered (train_around bs lent) ≡ answered lent
+train_lent_refused bs lent = answers.lent_refused (record_refusals bs) lent (train_shape (vehicles bs))
 
-pub account_lent_refused : (bs : List ℕ) (hauled : Account) (lent : List (Case Answer)) → Refusing lent → Every (λ r. r.applies ≡ false) (engine_refusals bs hauled) → is_done (first_of Done lent) ≡ false
-    → first_of Done (account_around bs hauled lent) ≡ first_of Done lent
-account_lent_refused bs hauled lent n none refused = lent_refused (engine_refusals bs hauled) lent (engine_shape (vehicles bs) hauled) (engines_refusing bs hauled) n none refused
+pub account_lent_refused : (bs : List ℕ) (hauled : Account) (lent : List (Case Refusal)) → Every (λ r. r.applies ≡ false) (engine_refusals bs hauled) → is_ok (answered lent) ≡ false
+    → answered (account_around bs hauled lent) ≡ answered lent
+account_lent_refused bs hauled lent = answers.lent_refused (engine_refusals bs hauled) lent (engine_shape (vehicles bs) hauled)
 
 -- a refused call writes nothing at all; a done call writes its bytes over the first of those lent and no other
-pub refused_unwritten : (answer : Answer) (bytes sheet : List ℕ) → is_done answer ≡ false → written answer bytes sheet ≡ sheet
+pub refused_unwritten : {T : Type 0} (answer : Result T Refusal) (bytes sheet : List ℕ) → is_ok answer ≡ false → written answer bytes sheet ≡ sheet
 refused_unwritten answer bytes sheet e = rw e
 
-pub done_written : (bytes sheet : List ℕ) → written Done bytes sheet ≡ bytes ++ drop (length bytes) sheet
-done_written bytes sheet = refl
+pub done_written : {T : Type 0} (x : T) (bytes sheet : List ℕ) → written (Ok x) bytes sheet ≡ bytes ++ drop (length bytes) sheet
+done_written x bytes sheet = refl
 
 -- 32 bytes of a cross-border sheet, 33 of a domestic one
 pub sheet_bytes_lem : (f : Facts) (o : Order) → length (sheet_for f o) ≡ sheet_length o.book
@@ -191,91 +196,92 @@ pub length_most : (b : Book) → sheet_length b ≤ 33
 length_most = sheets.length_most
 
 -- so of a whole train, and of engines with an account
-pub train_refused : (bs order sheet : List ℕ) → is_done (train_answer bs order (length sheet)) ≡ false → train_sheet bs order sheet ≡ sheet
+pub train_refused : (bs order sheet : List ℕ) → is_ok (train_answer bs order (length sheet)) ≡ false → train_sheet bs order sheet ≡ sheet
 train_refused bs order sheet e = refused_unwritten (train_answer bs order (length sheet)) (sheet_for (facts_of (vehicles bs)) (order_of order)) sheet e
 
-pub account_refused : (bs : List ℕ) (hauled : Account) (order sheet : List ℕ) → is_done (account_answer bs hauled order (length sheet)) ≡ false → account_sheet bs hauled order sheet ≡ sheet
+pub account_refused : (bs : List ℕ) (hauled : Account) (order sheet : List ℕ) → is_ok (account_answer bs hauled order (length sheet)) ≡ false → account_sheet bs hauled order sheet ≡ sheet
 account_refused bs hauled order sheet e = refused_unwritten (account_answer bs hauled order (length sheet)) (sheet_for (facts_beside (vehicles bs) hauled) (order_of order)) sheet e
 
 -- request Two: of records that 1, 2 and 3 do not refuse, with one digit of one number mistyped: 3 at that record's place, whatever is lent beside
-pub train_mistyped : (bs other : List ℕ) (i : ℕ) → Mistyped bs other i → (lent : List (Case Answer)) → Every (λ r. r.applies ≡ false) (record_refusals bs) → first_of Done (train_around other lent) ≡ BadField i
+pub train_mistyped : (bs other : List ℕ) (i : ℕ) → Mistyped bs other i → (lent : List (Case Refusal)) → Every (λ r. r.applies ≡ false) (record_refusals bs) → answered (train_around other lent) ≡ Err (BadField i)
 train_mistyped = exactly.train_mistyped
 
 -- of engines with an account that 1, 7, 2 and 3 do not refuse, with one digit of an engine's number mistyped
-pub account_mistyped : (bs other : List ℕ) (i : ℕ) → Mistyped bs other i → (hauled : Account) (lent : List (Case Answer)) → Every (λ r. r.applies ≡ false) (engine_refusals bs hauled)
-    → first_of Done (account_around other hauled lent) ≡ BadField i
+pub account_mistyped : (bs other : List ℕ) (i : ℕ) → Mistyped bs other i → (hauled : Account) (lent : List (Case Refusal)) → Every (λ r. r.applies ≡ false) (engine_refusals bs hauled)
+    → answered (account_around other hauled lent) ≡ Err (BadField i)
 account_mistyped = exactly.account_mistyped
 
 -- so with any order and room, and nothing is written
 pub train_mistyped_answered : (bs other : List ℕ) (i : ℕ) → Mistyped bs other i → (order sheet : List ℕ) → Every (λ r. r.applies ≡ false) (record_refusals bs)
-    → (train_answer other order (length sheet) ≡ BadField i) × (train_sheet other order sheet ≡ sheet)
+    → (train_answer other order (length sheet) ≡ Err (BadField i)) × (train_sheet other order sheet ≡ sheet)
 unfolding train_refusals
 train_mistyped_answered bs other i m order sheet none =
-    let a = train_mistyped bs other i m (order_refusals order (length sheet)) none in (a, train_refused other order sheet (ap is_done a))
+    let a = train_mistyped bs other i m (order_refusals order (length sheet)) none in (a, train_refused other order sheet (ap is_ok a))
 
 pub account_mistyped_answered : (bs other : List ℕ) (i : ℕ) → Mistyped bs other i → (hauled : Account) (order sheet : List ℕ) → Every (λ r. r.applies ≡ false) (engine_refusals bs hauled)
-    → (account_answer other hauled order (length sheet) ≡ BadField i) × (account_sheet other hauled order sheet ≡ sheet)
+    → (account_answer other hauled order (length sheet) ≡ Err (BadField i)) × (account_sheet other hauled order sheet ≡ sheet)
 unfolding account_refusals
 account_mistyped_answered bs other i m hauled order sheet none =
-    let a = account_mistyped bs other i m hauled (order_refusals order (length sheet)) none in (a, account_refused other hauled order sheet (ap is_done a))
+    let a = account_mistyped bs other i m hauled (order_refusals order (length sheet)) none in (a, account_refused other hauled order sheet (ap is_ok a))
 
 -- ---- demand 2: the sheet that is written is the one the rules give, over the records, and over the figures
-pub train_shows : (bs order sheet : List ℕ) → train_answer bs order (length sheet) ≡ Done → Shows (facts_of (vehicles bs)) (order_of order) (train_sheet bs order sheet)
+pub train_shows : (bs order sheet : List ℕ) → train_answer bs order (length sheet) ≡ Ok tt → Shows (facts_of (vehicles bs)) (order_of order) (train_sheet bs order sheet)
 train_shows bs order sheet done = shows_done _ (facts_of (vehicles bs)) (order_of order) sheet done (bounded_train bs order sheet done)
 
-pub account_shows : (bs : List ℕ) (hauled : Account) (order sheet : List ℕ) → account_answer bs hauled order (length sheet) ≡ Done
+pub account_shows : (bs : List ℕ) (hauled : Account) (order sheet : List ℕ) → account_answer bs hauled order (length sheet) ≡ Ok tt
     → Shows (facts_beside (vehicles bs) hauled) (order_of order) (account_sheet bs hauled order sheet)
 account_shows bs hauled order sheet done =
     shows_done _ (facts_beside (vehicles bs) hauled) (order_of order) sheet done (bounded_account bs hauled order (length sheet) done)
 
 -- the facts and the order of a call that is done are bounded, so that each stands on the sheet as it is
-pub train_bounded : (bs order sheet : List ℕ) → train_answer bs order (length sheet) ≡ Done → Bounded (facts_of (vehicles bs)) × ((order_of order).german ≤ 200)
+pub train_bounded : (bs order sheet : List ℕ) → train_answer bs order (length sheet) ≡ Ok tt → Bounded (facts_of (vehicles bs)) × ((order_of order).german ≤ 200)
 train_bounded = bounded_train
 
-pub account_bounded : (bs : List ℕ) (hauled : Account) (order : List ℕ) (room : ℕ) → account_answer bs hauled order room ≡ Done
+pub account_bounded : (bs : List ℕ) (hauled : Account) (order : List ℕ) (room : ℕ) → account_answer bs hauled order room ≡ Ok tt
     → Bounded (facts_beside (vehicles bs) hauled) × ((order_of order).german ≤ 200)
 account_bounded = bounded_account
 
 -- ---- demand 3, second half
 -- with one or two good working engines in front, portions cut anywhere between records and joined in any grouping,
--- the account and the engines give the refusals of the uncut train, whatever is lent beside, and its facts
-module _ (engines : List ℕ) (g : Grouping ℕ) (e : GoodEngines engines) (working : all is_working (vehicles engines) ≡ true) (cut : BetweenRecords g) (done : (accounted (uncut g)).answer ≡ Accepted) where
-  joined_is : (joined_bytes g).account ≡ (accounted (uncut g)).account
-  joined_is = ap (λ (r : Accounted). r.account) (any_grouping_of_bytes g cut done)
+-- the account that they join to and the engines give the refusals of the uncut train, whatever is lent beside, and its facts
+module _ (engines : List ℕ) (g : Grouping ℕ) (e : GoodEngines engines) (working : all is_working (vehicles engines) ≡ true) (cut : BetweenRecords g) (done : IsOk (accounted (uncut g))) where
+  uncut_good : GoodPortion (uncut g)
+  uncut_good = (portion_done_exactly (uncut g)).0 done
 
-  pub answer_from_account : (lent : List (Case Answer)) → first_of Done (account_around engines (joined_bytes g).account lent) ≡ first_of Done (train_around (engines ++ uncut g) lent)
-  answer_from_account lent =
-      ap (λ (a : Account). first_of Done (account_around engines a lent)) joined_is
-      ∙ answers_same engines (uncut g) lent e working ((portion_done_exactly (uncut g)).0 done)
+  -- there is such an account, that of the uncut list
+  pub joined_is : joined_bytes g ≡ Ok (account_of (vehicles (uncut g)))
+  joined_is = (any_grouping_done g cut uncut_good).1
 
-  pub facts_from_account : facts_beside (vehicles engines) (joined_bytes g).account ≡ facts_of (vehicles (engines ++ uncut g))
-  facts_from_account =
-      ap (facts_beside (vehicles engines)) joined_is
-      ∙ facts_joint engines (uncut g) [] e working ((portion_done_exactly (uncut g)).0 done)
+  module _ (joined : Account) (gives : joined_bytes g ≡ Ok joined) where
+    account_is : joined ≡ account_of (vehicles (uncut g))
+    account_is = let h = joined_is in cc
+
+    pub answer_from_account : (lent : List (Case Refusal)) → answered (account_around engines joined lent) ≡ answered (train_around (engines ++ uncut g) lent)
+    answer_from_account lent = ap (λ (a : Account). answered (account_around engines a lent)) account_is ∙ answers_same engines (uncut g) lent e working uncut_good
+
+    pub facts_from_account : facts_beside (vehicles engines) joined ≡ facts_of (vehicles (engines ++ uncut g))
+    facts_from_account = ap (facts_beside (vehicles engines)) account_is ∙ facts_joint engines (uncut g) [] e working uncut_good
 
 -- so with any order, the same refusal or sheet
 module _ (engines : List ℕ) (g : Grouping ℕ) (order sheet : List ℕ) (e : GoodEngines engines) (working : all is_working (vehicles engines) ≡ true) (cut : BetweenRecords g) where
-  pub sheet_from_account : (accounted (uncut g)).answer ≡ Accepted
-      → (account_answer engines (joined_bytes g).account order (length sheet) ≡ train_answer (engines ++ uncut g) order (length sheet))
-      × (account_sheet engines (joined_bytes g).account order sheet ≡ train_sheet (engines ++ uncut g) order sheet)
+  pub sheet_from_account : IsOk (accounted (uncut g)) → (joined : Account) → joined_bytes g ≡ Ok joined
+      → (account_answer engines joined order (length sheet) ≡ train_answer (engines ++ uncut g) order (length sheet))
+      × (account_sheet engines joined order sheet ≡ train_sheet (engines ++ uncut g) order sheet)
   unfolding account_refusals train_refusals
-  sheet_from_account done =
-      let a = answer_from_account engines g e working cut done (order_refusals order (length sheet)) in
-      (a, ap₂ (λ (x : Answer) (f : Facts). written x (sheet_for f (order_of order)) sheet) a (facts_from_account engines g e working cut done))
+  sheet_from_account done joined gives =
+      let a = answer_from_account engines g e working cut done joined gives (order_refusals order (length sheet)) in
+      (a, ap₂ (λ (x : Result ⊤ Refusal) (f : Facts). written x (sheet_for f (order_of order)) sheet) a (facts_from_account engines g e working cut done joined gives))
 
   -- from the records alone: each good, none a working engine, at most 200; then no call is refused
   pub sheet_from_portions : GoodPortion (uncut g)
       → NoneRefused g
-      × ((joined_bytes g).account ≡ account_of (vehicles (uncut g)))
-      × (account_answer engines (joined_bytes g).account order (length sheet) ≡ train_answer (engines ++ uncut g) order (length sheet))
-      × (account_sheet engines (joined_bytes g).account order sheet ≡ train_sheet (engines ++ uncut g) order sheet)
+      × (joined_bytes g ≡ Ok (account_of (vehicles (uncut g))))
+      × (account_answer engines (account_of (vehicles (uncut g))) order (length sheet) ≡ train_answer (engines ++ uncut g) order (length sheet))
+      × (account_sheet engines (account_of (vehicles (uncut g))) order sheet ≡ train_sheet (engines ++ uncut g) order sheet)
   sheet_from_portions good =
       let d = any_grouping_done g cut good in
-      let s = sheet_from_account (portion_done good) in
-      (d.0, ap (λ (r : Accounted). r.account) d.1, s.0, s.1)
-    where
-      portion_done : GoodPortion (uncut g) → (accounted (uncut g)).answer ≡ Accepted
-      portion_done good = ap (λ (r : Accounted). r.answer) ((portion_done_exactly (uncut g)).1 good)
+      let s = sheet_from_account (ap is_ok ((portion_done_exactly (uncut g)).1 good)) (account_of (vehicles (uncut g))) d.1 in
+      (d.0, d.1, s.0, s.1)
 
 -- ---- of a domestic order p is the table's at the train's length, since its byte 6 is 0
 pub domestic_percentage : (order : List ℕ) → good_order order ≡ true → (order_of order).book ≡ Domestic → (c : Category) (f : Facts) → percentage_of c f (order_of order) ≡ stepped c.percentage f.trainLength
@@ -296,17 +302,17 @@ module _ (order : List ℕ) (cross : (order_of order).book ≡ CrossBorder) wher
 
   -- so the whole call, of a train and of engines with an account
   pub cross_train_kept : (bs sheet : List ℕ)
-      → train_sheet bs order sheet ≡ written (first_of Done (train_around bs (order_tests (in_ranges cross_border_fields order) 32 (length sheet)))) (sheet_of cross_border (facts_of (vehicles bs)) (order_of order)) sheet
+      → train_sheet bs order sheet ≡ written (answered (train_around bs (order_tests (in_ranges cross_border_fields order) 32 (length sheet)))) (sheet_of cross_border (facts_of (vehicles bs)) (order_of order)) sheet
   unfolding train_refusals
   cross_train_kept bs sheet =
-      ap₂ (λ (lent : List (Case Answer)) (bytes : List ℕ). written (first_of Done (train_around bs lent)) bytes sheet) (cross_order_kept (length sheet)) (cross_sheet_kept (facts_of (vehicles bs)))
+      ap₂ (λ (lent : List (Case Refusal)) (bytes : List ℕ). written (answered (train_around bs lent)) bytes sheet) (cross_order_kept (length sheet)) (cross_sheet_kept (facts_of (vehicles bs)))
 
   pub cross_account_kept : (bs : List ℕ) (hauled : Account) (sheet : List ℕ)
       → account_sheet bs hauled order sheet
-      ≡ written (first_of Done (account_around bs hauled (order_tests (in_ranges cross_border_fields order) 32 (length sheet)))) (sheet_of cross_border (facts_beside (vehicles bs) hauled) (order_of order)) sheet
+      ≡ written (answered (account_around bs hauled (order_tests (in_ranges cross_border_fields order) 32 (length sheet)))) (sheet_of cross_border (facts_beside (vehicles bs) hauled) (order_of order)) sheet
   unfolding account_refusals
   cross_account_kept bs hauled sheet =
-      ap₂ (λ (lent : List (Case Answer)) (bytes : List ℕ). written (first_of Done (account_around bs hauled lent)) bytes sheet) (cross_order_kept (length sheet)) (cross_sheet_kept (facts_beside (vehicles bs) hauled))
+      ap₂ (λ (lent : List (Case Refusal)) (bytes : List ℕ). written (answered (account_around bs hauled lent)) bytes sheet) (cross_order_kept (length sheet)) (cross_sheet_kept (facts_beside (vehicles bs) hauled))
 
   -- ---- rule 46, withdrawn by request Five: no byte of a train's sheet is another than by the former list
   pub train_sheet_kept : (bs sheet : List ℕ)

@@ -7,10 +7,12 @@ use mathlib.Core.List.{List, ◌++◌}
 use borrow.Author.Tests.{eq-eqb, ne_eqb, eqb-true, eqb-false, le-ltb, ltb-false, not-false}
 use lib.Dec.{eqb}
 use lib.ListN.{length, length-drop}
-use Rattle.lists.specs.Words.{all, leading, Every, Case, first_of}
+use Rattle.std.specs.Prelude.{Ok, Err, is_ok}
+use Rattle.lists.specs.Words.{all, leading, Every, Case}
 use Rattle.lists.specs.Figures.{first_is}
 use Rattle.lists.proofs.Lists.{every_append}
-use Rattle.lists.proofs.Cases.{none_applies}
+use Rattle.lists.specs.Refusals.{answered}
+use Rattle.lists.proofs.Refusals.{none_of, none_refuses}
 use Rattle.record.specs.Records.{record_count, records_of, is_whole}
 use Rattle.record.specs.Vehicles.{good, vehicles, is_working}
 use Rattle.record.specs.Mistyped.{Mistyped}
@@ -21,16 +23,13 @@ use Rattle.account.specs.declared.Account.{Account}
 use Rattle.order.specs.Orders.{good_order, order_of}
 use Rattle.facts.specs.Facts.{working_of, hauled_of}
 use Rattle.sheets.specs.Sheets.{sheet_length}
-use Rattle.judge.specs.Answers.{is_done, not_whole, order_refusals, record_refusals, train_shape, train_around, engine_refusals, engine_shape, account_around}
+use Rattle.judge.specs.Answers.{not_whole, order_refusals, record_refusals, train_shape, train_around, engine_refusals, engine_shape, account_around}
 use Rattle.judge.specs.Good.{GoodLent, GoodTrain, GoodWithAccount}
-use Rattle.judge.specs.Judging.{Refusing}
-use Rattle.judge.specs.declared.Answer.{Answer}
-use Rattle.judge.specs.declared.Answer.TheVariants.{Done, BadField}
-use Rattle.judge.proofs.Answers.{none_of, all_passed, around_lent, around_groups}
-use Rattle.judge.proofs.Engines as engines
-use Rattle.judge.proofs.Engines.{engine_answer, engines_refusing, engines_ready}
-use Rattle.judge.proofs.Trains as trains
-use Rattle.judge.proofs.Trains.{record_answer, records_refusing, records_good}
+use Rattle.judge.specs.declared.Refusal.{Refusal}
+use Rattle.judge.specs.declared.Refusal.TheVariants.{BadField}
+use Rattle.judge.proofs.Answers.{all_passed}
+use Rattle.judge.proofs.Engines.{engines_ready}
+use Rattle.judge.proofs.Trains.{records_good}
 
 above_zero : (n : ℕ) → (n ≡ 0 → ⊥) → 0 < n
 above_zero n z = omega arith
@@ -47,15 +46,12 @@ module _ (order : List ℕ) (room : ℕ) where
   good_lent l = (ap not l.good, (le-ltb room (sheet_length (order_of order).book) l.fits, tt))
 
 -- ---- a whole train, whatever is lent beside
-module _ (bs : List ℕ) (lent : List (Case Answer)) where
-  pub train_good : Refusing lent → first_of Done (train_around bs lent) ≡ Done → GoodTrain bs × Every (λ r. r.applies ≡ false) lent
-  train_good n done =
-      let p =
-      all_passed (first_of Done (train_around bs lent)) (record_answer bs) (first_of Done lent) (trains.shape_answer bs)
-      (around_lent (record_refusals bs) lent (train_shape (vehicles bs)) (records_refusing bs) n ∙ around_groups (record_refusals bs) (first_of Done lent) (train_shape (vehicles bs)) (records_refusing bs))
-      (ap is_done done) in
+module _ (bs : List ℕ) (lent : List (Case Refusal)) where
+  pub train_good : answered (train_around bs lent) ≡ Ok tt → GoodTrain bs × Every (λ r. r.applies ≡ false) lent
+  train_good done =
+      let p = all_passed (record_refusals bs) lent (train_shape (vehicles bs)) (ap is_ok done) in
       let g = records_good bs p.0 in
-      let t = none_of (train_shape (vehicles bs)) (refl, (refl, (refl, (refl, tt)))) p.2 in (
+      let t = none_of (train_shape (vehicles bs)) p.2 in (
         record {
           whole = eq-eqb (length bs % 24) 0 g.whole;
           few = g.few;
@@ -65,30 +61,27 @@ module _ (bs : List ℕ) (lent : List (Case Answer)) where
           engines = ltb-false 2 (length (working_of (vehicles bs))) t.1.1.0;
           hauled = above_zero (length (hauled_of (vehicles bs))) (eqb-false (length (hauled_of (vehicles bs))) 0 t.1.1.1.0);
         },
-        none_of lent n p.1,
+        none_of lent p.1,
       )
 
-  pub good_train : GoodTrain bs → Every (λ r. r.applies ≡ false) lent → first_of Done (train_around bs lent) ≡ Done
+  pub good_train : GoodTrain bs → Every (λ r. r.applies ≡ false) lent → answered (train_around bs lent) ≡ Ok tt
   good_train g l =
       let some : 24 ≤ length bs = omega (arith, eqb-true (length bs % 24) 0 g.whole, g.hauled, length-drop (leading is_working (vehicles bs)) (vehicles bs), length_vehicles (record_count bs) bs) in
       let few = le-ltb 200 (record_count bs) g.few in
       let engines = le-ltb 2 (length (working_of (vehicles bs))) g.engines in
       let hauled = ne_eqb (length (hauled_of (vehicles bs))) 0 (λ z. omega (arith, z, g.hauled)) in
-      none_applies Done (train_around bs lent)
+      none_refuses (train_around bs lent)
       (every_append (λ r. r.applies ≡ false) (record_refusals bs) (lent ++ train_shape (vehicles bs))
       (some_whole bs g.whole some, (few, (ap not g.each, tt)))
       (every_append (λ r. r.applies ≡ false) lent (train_shape (vehicles bs)) l (ap not g.first, (g.behind, (engines, (hauled, tt))))))
 
 -- ---- engines with an account, whatever is lent beside
-module _ (bs : List ℕ) (hauled : Account) (lent : List (Case Answer)) where
-  pub account_good : Refusing lent → first_of Done (account_around bs hauled lent) ≡ Done → GoodWithAccount bs hauled × Every (λ r. r.applies ≡ false) lent
-  account_good n done =
-      let p =
-      all_passed (first_of Done (account_around bs hauled lent)) (engine_answer bs hauled) (first_of Done lent) (engines.shape_answer bs hauled)
-      (around_lent (engine_refusals bs hauled) lent (engine_shape (vehicles bs) hauled) (engines_refusing bs hauled) n ∙ around_groups (engine_refusals bs hauled) (first_of Done lent) (engine_shape (vehicles bs) hauled) (engines_refusing bs hauled))
-      (ap is_done done) in
-      let t = none_of (engine_refusals bs hauled) (engines_refusing bs hauled) p.0 in
-      let u = none_of (engine_shape (vehicles bs) hauled) (refl, (refl, (refl, tt))) p.2 in (
+module _ (bs : List ℕ) (hauled : Account) (lent : List (Case Refusal)) where
+  pub account_good : answered (account_around bs hauled lent) ≡ Ok tt → GoodWithAccount bs hauled × Every (λ r. r.applies ≡ false) lent
+  account_good done =
+      let p = all_passed (engine_refusals bs hauled) lent (engine_shape (vehicles bs) hauled) (ap is_ok done) in
+      let t = none_of (engine_refusals bs hauled) p.0 in
+      let u = none_of (engine_shape (vehicles bs) hauled) p.2 in (
         record {
           engines = engines_ready bs hauled p.0 p.2;
           working = not-false (all is_working (vehicles bs)) u.0;
@@ -96,16 +89,16 @@ module _ (bs : List ℕ) (hauled : Account) (lent : List (Case Answer)) where
           few = ltb-false 200 (record_count bs + hauled.count) t.1.1.0;
           hauled = above_zero hauled.count (eqb-false hauled.count 0 u.1.1.0);
         },
-        none_of lent n p.1,
+        none_of lent p.1,
       )
 
-  pub good_account : GoodWithAccount bs hauled → Every (λ r. r.applies ≡ false) lent → first_of Done (account_around bs hauled lent) ≡ Done
+  pub good_account : GoodWithAccount bs hauled → Every (λ r. r.applies ≡ false) lent → answered (account_around bs hauled lent) ≡ Ok tt
   good_account g l =
       let whole = some_whole bs g.engines.whole g.engines.some in
       let together = le-ltb 200 (record_count bs + hauled.count) g.few in
       let few = le-ltb 2 (length (vehicles bs)) (omega (arith, g.engines.few, length_vehicles (record_count bs) bs)) in
       let some = ne_eqb hauled.count 0 (λ z. omega (arith, z, g.hauled)) in
-      none_applies Done (account_around bs hauled lent)
+      none_refuses (account_around bs hauled lent)
       (every_append (λ r. r.applies ≡ false) (engine_refusals bs hauled) (lent ++ engine_shape (vehicles bs) hauled)
       (whole, (ap not g.ceilings, (together, (ap not g.engines.each, tt))))
       (every_append (λ r. r.applies ≡ false) lent (engine_shape (vehicles bs) hauled) l (ap not g.working, (few, (some, tt)))))
@@ -118,12 +111,12 @@ module _ (bs other : List ℕ) (i : ℕ) (m : Mistyped bs other i) where
   same_count : record_count other ≡ record_count bs
   same_count = omega (arith, m.long)
 
-  pub train_mistyped : (lent : List (Case Answer)) → Every (λ r. r.applies ≡ false) (record_refusals bs) → first_of Done (train_around other lent) ≡ BadField i
+  pub train_mistyped : (lent : List (Case Refusal)) → Every (λ r. r.applies ≡ false) (record_refusals bs) → answered (train_around other lent) ≡ Err (BadField i)
   train_mistyped lent t =
       let g = not-false (all good (records_of bs)) t.1.1.0 in
       simp (same_whole ∙ t.0, le-ltb 200 (record_count other) (omega (arith, same_count, ltb-false 200 (record_count bs) t.1.0)), mistyped_some bs other i m g, mistyped_place bs other i m g)
 
-  pub account_mistyped : (hauled : Account) (lent : List (Case Answer)) → Every (λ r. r.applies ≡ false) (engine_refusals bs hauled) → first_of Done (account_around other hauled lent) ≡ BadField i
+  pub account_mistyped : (hauled : Account) (lent : List (Case Refusal)) → Every (λ r. r.applies ≡ false) (engine_refusals bs hauled) → answered (account_around other hauled lent) ≡ Err (BadField i)
   account_mistyped hauled lent t =
       let g = not-false (all good (records_of bs)) t.1.1.1.0 in
       simp (same_whole ∙ t.0, t.1.0, le-ltb 200 (record_count other + hauled.count) (omega (arith, same_count, ltb-false 200 (record_count bs + hauled.count) t.1.1.0)), mistyped_some bs other i m g, mistyped_place bs other i m g)

@@ -7,7 +7,11 @@ use mathlib.Core.List.{List, [], ◌∷◌, ◌++◌}
 use borrow.Author.Tests.{eq-eqb, ne_eqb, eqb-true}
 use lib.Dec.{eqb, ltb}
 use lib.ListN.{length, length-append}
-use Rattle.lists.specs.Words.{all, Every, Case, first_of}
+use Rattle.std.specs.Prelude.{Err}
+use Rattle.std.specs.Result.{result_and}
+use Rattle.lists.specs.Words.{all, Every, Case}
+use Rattle.lists.specs.Refusals.{answered}
+use Rattle.lists.proofs.Refusals.{answered_append}
 use Rattle.record.specs.Records.{record_count, records_of, is_whole}
 use Rattle.record.specs.Vehicles.{good, vehicles, is_working}
 use Rattle.record.proofs.Records.{records_append}
@@ -17,24 +21,21 @@ use Rattle.record.proofs.Vehicles.{length_vehicles, vehicles_append}
 use Rattle.lists.specs.Figures.{some, first_is}
 use Rattle.account.specs.Accounts.{account_of}
 use Rattle.account.specs.Ceilings.{within}
-use Rattle.account.specs.Portions.{accounted}
-use Rattle.account.specs.declared.Accounted.{Accounted}
 use Rattle.account.specs.Groupings.{GoodPortion}
-use Rattle.account.proofs.Demands.{portion_done_exactly, portion_of, portion_within, hauled_not_working}
+use Rattle.account.proofs.Demands.{portion_of, portion_within, hauled_not_working}
 use Rattle.facts.specs.Engines.{GoodEngines}
 use Rattle.facts.specs.Facts.{working_of, hauled_of, facts_of, facts_beside, Working}
 use Rattle.facts.proofs.Demands.{working_is, hauled_is, facts_agree}
-use Rattle.judge.specs.Answers.{refusal, train_around, account_around}
-use Rattle.judge.specs.declared.Answer.{Answer}
-use Rattle.judge.specs.declared.Answer.TheVariants.{Done, TooMany, ManyEngines, NothingHauled}
+use Rattle.judge.specs.Answers.{refusal, size, train_around, account_around}
+use Rattle.judge.specs.declared.Refusal.{Refusal}
+use Rattle.judge.specs.declared.Refusal.TheVariants.{TooMany}
 use Rattle.judge.proofs.Trains.{working_each}
 
 -- behind any cases, what answers the same
-behind_same : (lent xs ys : List (Case Answer)) → first_of Done xs ≡ first_of Done ys → first_of Done (lent ++ xs) ≡ first_of Done (lent ++ ys)
-behind_same [] xs ys e = e
-behind_same (c ∷ lent) xs ys e = ap (cond c.applies c.gives) (behind_same lent xs ys e)
+behind_same : (lent xs ys : List (Case Refusal)) → answered xs ≡ answered ys → answered (lent ++ xs) ≡ answered (lent ++ ys)
+behind_same lent xs ys e = answered_append lent xs ∙ ap (result_and (answered lent)) e ∙ sym (answered_append lent ys)
 
-module _ (engines hauled : List ℕ) (lent : List (Case Answer)) (e : GoodEngines engines) (working : all is_working (vehicles engines) ≡ true) (s : GoodPortion hauled) where
+module _ (engines hauled : List ℕ) (lent : List (Case Refusal)) (e : GoodEngines engines) (working : all is_working (vehicles engines) ≡ true) (s : GoodPortion hauled) where
   engines_whole : length engines % 24 ≡ 0
   engines_whole = eqb-true (length engines % 24) 0 e.whole
 
@@ -52,9 +53,6 @@ module _ (engines hauled : List ℕ) (lent : List (Case Answer)) (e : GoodEngine
 
   first_hauled : first_is is_working (vehicles hauled) ≡ false
   first_hauled = none_first is_working (vehicles hauled) none_behind
-
-  account_is : (accounted hauled).account ≡ account_of (vehicles hauled)
-  account_is = ap (λ (r : Accounted). r.account) ((portion_done_exactly hauled).1 s)
 
   -- each test of the two lists of refusals
   whole_some : (list : List ℕ) → length list % 24 ≡ 0 → 24 ≤ length list → (eqb (length list) 0 || not (is_whole list)) ≡ false
@@ -78,38 +76,35 @@ module _ (engines hauled : List ℕ) (lent : List (Case Answer)) (e : GoodEngine
   train_working : working_of (vehicles (engines ++ hauled)) ≡ vehicles engines
   train_working = ap working_of train ∙ working_is (vehicles engines) (vehicles hauled) each_working first_hauled
 
-  account_count : (accounted hauled).account.count ≡ record_count hauled
+  account_count : (account_of (vehicles hauled)).count ≡ record_count hauled
   unfolding account_of
-  account_count = ap (λ (r : Accounted). r.account.count) ((portion_done_exactly hauled).1 s) ∙ length_vehicles (record_count hauled) hauled
+  account_count = length_vehicles (record_count hauled) hauled
 
-  account_within : within (accounted hauled).account ≡ true
-  account_within = ap within account_is ∙ portion_within (vehicles hauled) (portion_of hauled s)
+  account_within : within (account_of (vehicles hauled)) ≡ true
+  account_within = portion_within (vehicles hauled) (portion_of hauled s)
 
   -- what is left of both lists
-  abbrev late : List (Case Answer)
-  late = refusal ManyEngines (ltb 2 (record_count engines)) ∷ refusal NothingHauled (eqb (record_count hauled) 0) ∷ []
+  abbrev late : List (Case Refusal)
+  late = size (record_count engines) (record_count hauled)
 
-  left_of_lem : (xs : List (Case Answer)) → first_of Done xs ≡ first_of Done late → cond (ltb 200 (record_count engines + record_count hauled)) TooMany (first_of Done (lent ++ xs)) ≡ cond (ltb 200 (record_count engines + record_count hauled)) TooMany (first_of Done (lent ++ late))
-  left_of_lem xs e = ap (cond (ltb 200 (record_count engines + record_count hauled)) TooMany) (behind_same lent xs late e)
+  left_of_lem : (xs : List (Case Refusal)) → answered xs ≡ answered late → cond (ltb 200 (record_count engines + record_count hauled)) (Err TooMany) (answered (lent ++ xs)) ≡ cond (ltb 200 (record_count engines + record_count hauled)) (Err TooMany) (answered (lent ++ late))
+  left_of_lem xs e = ap (cond (ltb 200 (record_count engines + record_count hauled)) (Err TooMany)) (behind_same lent xs late e)
 
-  abbrev left : List (Case Answer)
+  abbrev left : List (Case Refusal)
   left =
       refusal TooMany (ltb 200 (record_count engines + record_count hauled))
       ∷ (lent ++ late)
 
-  train_left : first_of Done (train_around (engines ++ hauled) lent) ≡ first_of Done left
+  train_left : answered (train_around (engines ++ hauled) lent) ≡ answered left
   train_left =
       simp (train_whole, ap (ltb 200) train_count, train_fine, train_first, ap (some is_working) train_rest ∙ none_behind, ap length train_working ∙ length_vehicles (record_count engines) engines, ap length train_rest ∙ length_vehicles (record_count hauled) hauled) (left_of_lem _ refl)
 
-  account_left : first_of Done (account_around engines (accounted hauled).account lent) ≡ first_of Done left
+  account_left : answered (account_around engines (account_of (vehicles hauled)) lent) ≡ answered left
   account_left =
       simp (whole_some engines engines_whole e.some, account_within, account_count, e.each, working, length_vehicles (record_count engines) engines) (left_of_lem _ refl)
 
-  pub answers_same : first_of Done (account_around engines (accounted hauled).account lent) ≡ first_of Done (train_around (engines ++ hauled) lent)
+  pub answers_same : answered (account_around engines (account_of (vehicles hauled)) lent) ≡ answered (train_around (engines ++ hauled) lent)
   answers_same = account_left ∙ sym train_left
 
-  pub facts_joint : facts_beside (vehicles engines) (accounted hauled).account ≡ facts_of (vehicles (engines ++ hauled))
-  facts_joint =
-      ap (facts_beside (vehicles engines)) account_is
-      ∙ sym (facts_agree (vehicles engines) (vehicles hauled) each_working first_hauled)
-      ∙ ap facts_of (sym train)
+  pub facts_joint : facts_beside (vehicles engines) (account_of (vehicles hauled)) ≡ facts_of (vehicles (engines ++ hauled))
+  facts_joint = sym (facts_agree (vehicles engines) (vehicles hauled) each_working first_hauled) ∙ ap facts_of (sym train)

@@ -6,6 +6,7 @@ use mathlib.Core.Logic.{inl, inr}
 use lib.IntN.{pos}
 use lib.ListN.{length, get_or, take, drop}
 use lib.Signed.{lt_z}
+use Rattle.std.specs.Prelude.{Result, Ok, ⊤}
 use Rattle.lists.specs.Words.{Every}
 use Rattle.margin.specs.Margin.{signed_of}
 use Rattle.order.specs.declared.Book.{Book}
@@ -27,8 +28,7 @@ use Rattle.sheets.specs.Sheets.{margin_at, asked_of, figures_of, sheet_of}
 use Rattle.sheets.proofs.Demands.{braked_most, margin_read_back, margin_true_sign}
 use Rattle.judge.specs.Answers.{sheet_for, written}
 use Rattle.judge.specs.Shown.{byte_of, Shows}
-use Rattle.judge.specs.declared.Answer.{Answer}
-use Rattle.judge.specs.declared.Answer.TheVariants.{Done}
+use Rattle.judge.specs.declared.Refusal.{Refusal}
 
 -- the sheet, and whatever stands behind it, by the book
 module _ (f : Facts) (o : Order) (rest : List ℕ) where
@@ -86,6 +86,6 @@ module _ (f : Facts) (o : Order) (rest : List ℕ) where
       }
 
 -- of a call that is done
-pub shows_done : (answer : Answer) (f : Facts) (o : Order) (sheet : List ℕ) → answer ≡ Done → Bounded f × (o.german ≤ 200) → Shows f o (written answer (sheet_for f o) sheet)
+pub shows_done : (answer : Result ⊤ Refusal) (f : Facts) (o : Order) (sheet : List ℕ) → answer ≡ Ok tt → Bounded f × (o.german ≤ 200) → Shows f o (written answer (sheet_for f o) sheet)
 shows_done answer f o sheet e b =
-    subst (λ (a : Answer). Shows f o (written a (sheet_for f o) sheet)) (sym e) (shows_over f o (drop (length (sheet_for f o)) sheet) b.0 b.1)
+    subst (λ (a : Result ⊤ Refusal). Shows f o (written a (sheet_for f o) sheet)) (sym e) (shows_over f o (drop (length (sheet_for f o)) sheet) b.0 b.1)

@@ -1,11 +1,11 @@
 -- Document 01, "Answers that yield no sheet": each number from small trains and accounts for which it is given, and 0 beside them.
-use Rattle.std.specs.Prelude.{ℕ, List, [], ◌∷◌, ◌++◌, take, get_or, replicate}
+use Rattle.std.specs.Prelude.{ℕ, List, [], ◌∷◌, ◌++◌, take, get_or, replicate, Result, ⊤}
 use Rattle.record.specs.Limits.{engine, wagon}
 use Rattle.account.specs.Limits.{alone}
 use Rattle.account.specs.declared.Account.{Account}
 use Rattle.order.specs.Limits.{written as orders}
-use Rattle.judge.specs.Answers.{number_of, place_of, train_answer, account_answer}
-use Rattle.judge.specs.declared.Answer.{Answer}
+use Rattle.judge.specs.Answers.{answer_number, answer_place, train_answer, account_answer}
+use Rattle.judge.specs.declared.Refusal.{Refusal}
 
 -- a record with every field 0; engine and wagon are good ones
 abbrev zeros : List ℕ
@@ -23,8 +23,8 @@ abbrev counting : ℕ → Account
 counting n = alone 0 n
 
 -- number and place
-abbrev told : Answer → ℕ × ℕ
-told answer = (number_of answer, place_of answer)
+abbrev told : Result ⊤ Refusal → ℕ × ℕ
+told answer = (answer_number answer, answer_place answer)
 
 -- a train on the cross-border order with room for its sheet, and engines with an account that counts so many
 abbrev train : List ℕ → ℕ × ℕ

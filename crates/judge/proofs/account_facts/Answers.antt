@@ -1,26 +1,45 @@
 -- `judge::account_facts` meets its contract: three groups of refusals, then the facts that are held are the facts. Assumes nothing.
-use mathlib.Core.Path.{sym, ◌∙◌}
+use mathlib.Core.Path.{sym, ap, ◌∙◌}
+use Rattle.std.specs.Prelude.{Ok, is_ok}
+use Rattle.std.proofs.lemmas.Result.{err_from_is_err_and}
 use Rattle.facts.proofs.Demands.{facts_held}
-use Rattle.judge.proofs.Engines.{account_first, account_second, account_third, account_ready, account_done}
+use Rattle.judge.specs.Judging.{account_judged}
+use Rattle.judge.proofs.Answers.{stops, passes}
+use Rattle.judge.proofs.Engines.{engines_ready, hauled_within, none_works, all_work, account_late}
 use Rattle.judge.proofs.account_facts.Goals as goal
 
-pub returns-then-not-is_done : goal.returns-then-not-is_done
-returns-then-not-is_done c =
-    let a = c.args in
-    account_first a.engines.now a.hauled a.lent _ c.engine_refusal-records.ensures (sym c.is_done.ensures ∙ c.if-not-is_done.true)
+pub returns-in_err-engine_refusal : goal.returns-in_err-engine_refusal
+unfolding account_judged
+returns-in_err-engine_refusal c =
+    let p = err_from_is_err_and c.from_residual.result c.from_residual.ensures.1 in
+    rw (p.1, p.2) (sym (stops _ (sym c.engine_refusal.ensures ∙ c.in_err-engine_refusal.was)))
 
-pub returns-then-not-is_done-2 : goal.returns-then-not-is_done-2
-returns-then-not-is_done-2 c =
-    let a = c.args in
-    account_second a.engines.now a.hauled a.lent _ c.engine_refusal-records.ensures (sym c.is_done.ensures ∙ c.if-not-is_done.false) (sym c.is_done-2.ensures ∙ c.if-not-is_done-2.true)
+pub returns-in_err-lent : goal.returns-in_err-lent
+unfolding account_judged
+returns-in_err-lent c =
+    let p = err_from_is_err_and c.from_residual-in_err-lent.result c.from_residual-in_err-lent.ensures.1 in
+    rw (p.1, p.2) (sym (passes _ (sym c.engine_refusal.ensures ∙ c.in_ok-engine_refusal.was) ∙ stops _ c.in_err-lent.was))
 
-pub returns-then-not-is_done-3 : goal.returns-then-not-is_done-3
-returns-then-not-is_done-3 c =
+pub returns-then-working_count-n : goal.returns-then-working_count-n
+returns-then-working_count-n c =
     let a = c.args in
-    account_third a.engines.now a.hauled a.lent _ c.engine_refusal-records.ensures (sym c.is_done.ensures ∙ c.if-not-is_done.false) (sym c.is_done-2.ensures ∙ c.if-not-is_done-2.false) _ _ c.working_count-working.ensures c.shape_refusal-late.ensures (sym c.is_done-3.ensures ∙ c.if-not-is_done-3.true)
+    sym (account_late a.engines.now a.hauled a.lent (sym c.engine_refusal.ensures ∙ c.in_ok-engine_refusal.was) c.in_ok-lent.was
+    ∙ stops _ (none_works a.engines.now a.hauled _ c.working_count.ensures c.if-working_count-n.true))
+
+pub returns-in_err-size_refusal : goal.returns-in_err-size_refusal
+returns-in_err-size_refusal c =
+    let a = c.args in
+    let p = err_from_is_err_and c.from_residual-in_err-size_refusal.result c.from_residual-in_err-size_refusal.ensures.1 in
+    rw (p.1, p.2)
+    (sym (account_late a.engines.now a.hauled a.lent (sym c.engine_refusal.ensures ∙ c.in_ok-engine_refusal.was) c.in_ok-lent.was
+    ∙ stops _ (all_work a.engines.now a.hauled _ c.working_count.ensures c.if-working_count-n.false ∙ sym c.size_refusal.ensures ∙ c.in_err-size_refusal.was)))
 
 pub returns : goal.returns
 returns c =
     let a = c.args in
-    let ready = account_ready a.engines.now a.hauled a.lent _ c.engine_refusal-records.ensures (sym c.is_done.ensures ∙ c.if-not-is_done.false) (sym c.is_done-2.ensures ∙ c.if-not-is_done-2.false) _ _ c.working_count-working.ensures c.shape_refusal-late.ensures (sym c.is_done-3.ensures ∙ c.if-not-is_done-3.false) in
-    account_done a.engines.now a.hauled a.lent _ c.engine_refusal-records.ensures (sym c.is_done.ensures ∙ c.if-not-is_done.false) (sym c.is_done-2.ensures ∙ c.if-not-is_done-2.false) _ _ c.working_count-working.ensures c.shape_refusal-late.ensures (sym c.is_done-3.ensures ∙ c.if-not-is_done-3.false) _ (c.facts_beside.ensures ∙ facts_held a.engines.now a.hauled ready.0 ready.1)
+    let first = sym c.engine_refusal.ensures ∙ c.in_ok-engine_refusal.was in
+    let late = all_work a.engines.now a.hauled _ c.working_count.ensures c.if-working_count-n.false ∙ sym c.size_refusal.ensures ∙ c.in_ok-size_refusal.was in
+    let ready = engines_ready a.engines.now a.hauled (ap is_ok first) (ap is_ok late) in
+    let within = hauled_within a.engines.now a.hauled (ap is_ok first) (ap is_ok late) in
+    ap Ok (c.facts_beside.ensures ∙ facts_held a.engines.now a.hauled ready within)
+    ∙ sym (account_late a.engines.now a.hauled a.lent first c.in_ok-lent.was ∙ passes _ late)

@@ -1,25 +1,44 @@
 -- `judge::sheet_of_train` meets its contract: what is judged is shown. Assumes nothing.
-use mathlib.Core.Path.{◌∙◌, sym, ap, subst}
+use Prim.Native.Nat.{◌≤◌}
+use mathlib.Core.Path.{sym, ap, ◌∙◌, subst}
+use mathlib.Core.List.{◌++◌}
+use lib.ListN.{length, drop}
+use Rattle.std.specs.Prelude.{Result, ⊤}
+use Rattle.std.proofs.lemmas.Result.{err_from_is_err_and}
+use Rattle.record.specs.Vehicles.{vehicles}
+use Rattle.facts.specs.Facts.{facts_of}
+use Rattle.order.specs.Orders.{order_of}
 use Rattle.order.specs.declared.Order.{Order}
-use Rattle.judge.specs.Judging.{sheet_in, Roomy}
-use Rattle.judge.proofs.Sheets.{train_room, train_answer_lem, train_sheet_lem}
+use Rattle.sheets.specs.Sheets.{sheet_length}
+use Rattle.judge.specs.Answers.{sheet_for, written}
+use Rattle.judge.specs.declared.Refusal.{Refusal}
+use Rattle.judge.proofs.Sheets.{train_told}
 use Rattle.judge.proofs.sheet_of_train.Goals as goal
+
+pub returns-in_err-f : goal.returns-in_err-f
+returns-in_err-f c =
+    let a = c.args in
+    let p = err_from_is_err_and c.from_residual.result c.from_residual.ensures.1 in
+    let refused = (train_told a.vehicles.now a.order.now a.sheet.now _ c.lent_refusal-lent.ensures _ c.train_facts.ensures).refused _ c.in_err-f.was in
+    record {
+      value = rw (p.1, p.2) (sym refused);
+      sheet_after = sym (ap (λ (x : Result ⊤ Refusal). written x (sheet_for (facts_of (vehicles a.vehicles.now)) (order_of a.order.now)) a.sheet.now) refused);
+    }
 
 pub put_sheet-requires : goal.put_sheet-requires
 put_sheet-requires c =
     let a = c.args in
-    subst (λ (o : Order). Roomy c.train_facts.result o a.sheet.now) (sym c.read_order-o.ensures)
-    (train_room a.vehicles.now a.order.now a.sheet.now _ c.lent_refusal-lent.ensures _ c.train_facts.ensures)
+    subst (λ (o : Order). sheet_length o.book ≤ length a.sheet.now) (sym c.read_order-o.ensures)
+    ((train_told a.vehicles.now a.order.now a.sheet.now _ c.lent_refusal-lent.ensures _ c.train_facts.ensures).room _ c.in_ok-f.was)
 
 pub returns : goal.returns
 returns c =
     let a = c.args in
-    let lent = c.lent_refusal-lent.ensures in
-    let judged = c.train_facts.ensures in
+    let told = train_told a.vehicles.now a.order.now a.sheet.now _ c.lent_refusal-lent.ensures _ c.train_facts.ensures in
     record {
-      value = c.put_sheet.ensures.value ∙ train_answer_lem a.vehicles.now a.order.now a.sheet.now _ lent _ judged;
+      value = sym (told.done _ c.in_ok-f.was);
       sheet_after =
-          c.put_sheet.ensures.sheet_after
-          ∙ ap (λ (o : Order). sheet_in c.train_facts.result o a.sheet.now) c.read_order-o.ensures
-          ∙ train_sheet_lem a.vehicles.now a.order.now a.sheet.now _ lent _ judged;
+          c.put_sheet.ensures
+          ∙ ap (λ (o : Order). sheet_for c.in_ok-f.f o ++ drop (length (sheet_for c.in_ok-f.f o)) a.sheet.now) c.read_order-o.ensures
+          ∙ told.shown _ c.in_ok-f.was;
     }

@@ -1,65 +1,129 @@
 -- `judge::train_facts` meets its contract: the groups of refusals, then the facts of its two parts. Assumes nothing.
-use mathlib.Core.Path.{◌≡◌, sym, ◌∙◌}
-use mathlib.Core.Bool.{true}
+use native.Mathlib.Omega.{arith}
+use mathlib.Core.Path.{◌≡◌, sym, ap, ap₂, ◌∙◌}
+use mathlib.Core.List.{List}
+use Prim.Native.Nat.{ℕ, ◌*◌}
+use lib.ListN.{take, drop}
+use Rattle.std.specs.Prelude.{Result, Ok, Err, is_ok, ⊤}
+use Rattle.std.specs.Result.{result_and}
+use Rattle.std.proofs.lemmas.Result.{err_from_is_err_and}
+use Rattle.lists.specs.Refusals.{answered}
+use Rattle.record.specs.Vehicles.{vehicles}
+use Rattle.account.specs.Accounts.{account_of}
+use Rattle.account.specs.Groupings.{GoodPortion}
+use Rattle.account.specs.Portions.{accounted}
+use Rattle.facts.specs.Engines.{engines_in}
+use Rattle.facts.specs.Facts.{facts_of, facts_beside, held}
+use Rattle.judge.specs.Answers.{size, train_shape}
+use Rattle.judge.specs.Judging.{train_judged, GoodRecords}
+use Rattle.judge.specs.declared.Refusal.TheVariants.{WorkingBehind}
+use Rattle.account.specs.declared.Account.{Account}
 use Rattle.facts.proofs.Demands.{facts_held}
-use Rattle.judge.specs.Answers.{is_done}
-use Rattle.judge.specs.Judging.{GoodRecords, Parts}
-use Rattle.judge.proofs.Trains.{record_answer, count_first, field_next, train_first, train_good, train_second, train_third, train_done}
+use Rattle.judge.proofs.Answers.{stops, passes, or_err, or_ok}
+use Rattle.judge.proofs.Trains.{parted_le, front_fields, portion_at, account_at, none_works, refused_rear, works_behind, sizes_left, front_good, rear_within, facts_are, counted_good, train_steps, train_late}
 use Rattle.judge.proofs.train_facts.Goals as goal
-use Rattle.judge.proofs.train_facts.Goals.{After-field_refusal_unless-fields, Else-not-is_done-2, Else-not-is_done-3, Else-not-is_done-4}
+use Rattle.judge.proofs.train_facts.Goals.{After-account_of-hauled, After-or, After-size_refusal}
 
--- 1 and 2 have passed, so that what answers for 3 answers for all three
-first_at : (e : After-field_refusal_unless-fields) → e.field_refusal_unless-fields.result ≡ record_answer e.args.vehicles.now
-first_at e =
-    field_next e.args.vehicles.now _ e.count_refusal-counts.ensures (sym e.is_done.ensures ∙ e.if-not-is_done.false) _ e.field_refusal_unless-fields.ensures
+-- the rest's account
+rear_at : (e : After-account_of-hauled) → e.account_of-hauled.result ≡ accounted (drop (24 * e.working_count-working.result) e.args.vehicles.now)
+rear_at e = e.account_of-hauled.ensures ∙ ap accounted e.split_at.ensures.back
 
--- 3 has passed: the records are good
-passed_at : (e : Else-not-is_done-2) → is_done e.field_refusal_unless-fields.result ≡ true
-passed_at e = sym e.is_done-2.ensures ∙ e.if-not-is_done-2.false
+-- 1, 2, 3 and what is lent have passed, and a working engine is in front
+late_at : (e : After-or)
+    → train_judged e.args.vehicles.now e.args.lent ≡ result_and (answered (train_shape (vehicles e.args.vehicles.now))) (Ok (facts_of (vehicles e.args.vehicles.now)))
+late_at e =
+    train_late e.args.vehicles.now e.args.lent (sym e.count_refusal.ensures ∙ e.in_ok-count_refusal.was) (sym e.field_refusal_in.ensures ∙ e.in_ok-field_refusal_in.was) e.in_ok-lent.was
 
-records_at : (e : Else-not-is_done-2) → e.field_refusal_unless-fields.result ≡ record_answer e.args.vehicles.now → GoodRecords e.args.vehicles.now
-records_at e first = train_good e.args.vehicles.now e.args.lent _ first (passed_at e)
+records_at : (e : After-or) → GoodRecords e.args.vehicles.now
+records_at e = counted_good e.args.vehicles.now (sym e.count_refusal.ensures ∙ e.in_ok-count_refusal.was) (sym e.field_refusal_in.ensures ∙ e.in_ok-field_refusal_in.was)
 
--- what is lent has passed
-lent_at : (e : Else-not-is_done-3) → is_done e.args.lent ≡ true
-lent_at e = sym e.is_done-3.ensures ∙ e.if-not-is_done-3.false
+-- and the rest has an account
+account_in : (e : After-size_refusal) → accounted (drop (24 * e.working_count-working.result) e.args.vehicles.now) ≡ Ok e.in_ok-hauled.hauled
+account_in e =
+    sym (e.account_of-hauled.ensures ∙ ap accounted e.split_at.ensures.back) ∙ or_ok e.account_of-hauled.result WorkingBehind (sym e.or.ensures ∙ e.in_ok-hauled.was)
 
--- and so have 11 to 14: the train's parts are ready
-done_at : (e : Else-not-is_done-4) → is_done e.part_train-parts.result.answer ≡ true
-done_at e = sym e.is_done-4.ensures ∙ e.if-not-is_done-4.false
+account_is : (e : After-size_refusal) → e.in_ok-hauled.hauled ≡ account_of (vehicles (drop (24 * e.working_count-working.result) e.args.vehicles.now))
+account_is e = account_at e.args.vehicles.now e.working_count-working.result e.working_count-working.ensures e.in_ok-hauled.hauled (account_in e)
 
-parts_at : (e : Else-not-is_done-4) → GoodRecords e.args.vehicles.now → Parts e.args.vehicles.now e.part_train-parts.result.working e.part_train-parts.result.hauled
-parts_at e records = e.part_train-parts.ensures.parts records (done_at e)
+portion_in : (e : After-size_refusal) → GoodPortion (drop (24 * e.working_count-working.result) e.args.vehicles.now)
+portion_in e = portion_at e.args.vehicles.now e.working_count-working.result e.working_count-working.ensures (ap is_ok (account_in e))
 
-pub returns-then-not-is_done : goal.returns-then-not-is_done
-returns-then-not-is_done c =
-    let a = c.args in
-    let refused = sym c.is_done.ensures ∙ c.if-not-is_done.true in
-    train_first a.vehicles.now a.lent _ (count_first a.vehicles.now _ c.count_refusal-counts.ensures refused) refused
+sized_at : (e : After-size_refusal) → GoodRecords e.args.vehicles.now → answered (train_shape (vehicles e.args.vehicles.now)) ≡ e.size_refusal.result
+sized_at e g =
+    sizes_left e.args.vehicles.now e.working_count-working.result e.working_count-working.ensures g e.if-working-eq0.false (portion_in e)
+    ∙ ap (λ (a : Account). answered (size e.working_count-working.result a.count)) (sym (account_is e))
+    ∙ sym e.size_refusal.ensures
 
-pub returns-then-not-is_done-2 : goal.returns-then-not-is_done-2
-returns-then-not-is_done-2 c =
-    let a = c.args in
-    train_first a.vehicles.now a.lent _ (first_at (goal.at.returns-then-not-is_done-2 c).After-field_refusal_unless-fields) (sym c.is_done-2.ensures ∙ c.if-not-is_done-2.true)
+pub overflow_mul-working : goal.overflow_mul-working
+overflow_mul-working c = omega (arith, parted_le c.args.vehicles.now c.working_count-working.result c.working_count-working.ensures)
 
-pub returns-then-not-is_done-3 : goal.returns-then-not-is_done-3
-returns-then-not-is_done-3 c =
-    let a = c.args in
-    train_second a.vehicles.now a.lent _ (first_at (goal.at.returns-then-not-is_done-3 c).After-field_refusal_unless-fields) (passed_at (goal.at.returns-then-not-is_done-3 c).Else-not-is_done-2) (sym c.is_done-3.ensures ∙ c.if-not-is_done-3.true)
+pub split_at-requires : goal.split_at-requires
+split_at-requires c = parted_le c.args.vehicles.now c.working_count-working.result c.working_count-working.ensures
 
-pub returns-then-not-is_done-4 : goal.returns-then-not-is_done-4
-returns-then-not-is_done-4 c =
-    let a = c.args in
-    let g = goal.at.returns-then-not-is_done-4 c in
-    let first = first_at g.After-field_refusal_unless-fields in
-    train_third a.vehicles.now a.lent _ first (passed_at g.Else-not-is_done-2) (lent_at g.Else-not-is_done-3) _ (c.part_train-parts.ensures.answer_value (records_at g.Else-not-is_done-2 first)) (sym c.is_done-4.ensures ∙ c.if-not-is_done-4.true)
+pub field_refusal_in-requires : goal.field_refusal_in-requires
+field_refusal_in-requires c = λ ok.
+    let bs = c.args.vehicles.now in
+    let n = c.working_count-working.result in
+    let count = c.working_count-working.ensures in
+    let portion = portion_at bs n count (ap is_ok (sym (rear_at (goal.at.field_refusal_in-requires c).After-account_of-hauled)) ∙ sym c.is_ok.ensures.value ∙ ok) in
+    rw c.split_at.ensures.front (front_fields bs n count portion.each)
+
+pub returns-in_err-count_refusal : goal.returns-in_err-count_refusal
+returns-in_err-count_refusal c =
+    let p = err_from_is_err_and c.from_residual.result c.from_residual.ensures.1 in
+    rw (p.1, p.2) (sym (train_steps c.args.vehicles.now c.args.lent ∙ stops _ (sym c.count_refusal.ensures ∙ c.in_err-count_refusal.was)))
+
+pub returns-in_err-field_refusal_in : goal.returns-in_err-field_refusal_in
+returns-in_err-field_refusal_in c =
+    let p = err_from_is_err_and c.from_residual-in_err-field_refusal_in.result c.from_residual-in_err-field_refusal_in.ensures.1 in
+    rw (p.1, p.2) (sym (train_steps c.args.vehicles.now c.args.lent ∙ passes _ (sym c.count_refusal.ensures ∙ c.in_ok-count_refusal.was) ∙ stops _ (sym c.field_refusal_in.ensures ∙ c.in_err-field_refusal_in.was)))
+
+pub returns-in_err-lent : goal.returns-in_err-lent
+returns-in_err-lent c =
+    let p = err_from_is_err_and c.from_residual-in_err-lent.result c.from_residual-in_err-lent.ensures.1 in
+    rw (p.1, p.2)
+    (sym (train_steps c.args.vehicles.now c.args.lent
+    ∙ passes _ (sym c.count_refusal.ensures ∙ c.in_ok-count_refusal.was)
+    ∙ passes _ (sym c.field_refusal_in.ensures ∙ c.in_ok-field_refusal_in.was)
+    ∙ stops _ c.in_err-lent.was))
+
+pub returns-then-working-eq0 : goal.returns-then-working-eq0
+returns-then-working-eq0 c =
+    let bs = c.args.vehicles.now in
+    sym (train_late bs c.args.lent (sym c.count_refusal.ensures ∙ c.in_ok-count_refusal.was) (sym c.field_refusal_in.ensures ∙ c.in_ok-field_refusal_in.was) c.in_ok-lent.was
+    ∙ stops _ (none_works bs c.working_count-working.result c.working_count-working.ensures c.if-working-eq0.true))
+
+pub returns-in_err-hauled : goal.returns-in_err-hauled
+returns-in_err-hauled c =
+    let bs = c.args.vehicles.now in
+    let n = c.working_count-working.result in
+    let count = c.working_count-working.ensures in
+    let e = (goal.at.returns-in_err-hauled c).After-or in
+    let p = err_from_is_err_and c.from_residual-in_err-hauled.result c.from_residual-in_err-hauled.ensures.1 in
+    let r = or_err c.account_of-hauled.result (sym c.or.ensures ∙ c.in_err-hauled.was) in
+    let behind = refused_rear bs n count (records_at e) (ap is_ok (sym (rear_at (goal.at.returns-in_err-hauled c).After-account_of-hauled)) ∙ r.0) in
+    rw (p.1, p.2, r.1) (sym (late_at e ∙ stops _ (works_behind bs n count (records_at e) c.if-working-eq0.false behind)))
+
+pub returns-in_err-size_refusal : goal.returns-in_err-size_refusal
+returns-in_err-size_refusal c =
+    let e = (goal.at.returns-in_err-size_refusal c).After-or in
+    let p = err_from_is_err_and c.from_residual-in_err-size_refusal.result c.from_residual-in_err-size_refusal.ensures.1 in
+    rw (p.1, p.2) (sym (late_at e ∙ stops _ (sized_at (goal.at.returns-in_err-size_refusal c).After-size_refusal (records_at e) ∙ c.in_err-size_refusal.was)))
 
 pub returns : goal.returns
 returns c =
-    let a = c.args in
-    let g = goal.at.returns c in
-    let first = first_at g.After-field_refusal_unless-fields in
-    let records = records_at g.Else-not-is_done-2 first in
-    let parts = parts_at g.Else-not-is_done-4 records in
-    train_done a.vehicles.now a.lent _ first (passed_at g.Else-not-is_done-2) (lent_at g.Else-not-is_done-3) _ (c.part_train-parts.ensures.answer_value records) (done_at g.Else-not-is_done-4) _
-    (c.facts_beside.ensures ∙ facts_held _ _ parts.engines parts.ceilings ∙ parts.facts)
+    let bs = c.args.vehicles.now in
+    let n = c.working_count-working.result in
+    let count = c.working_count-working.ensures in
+    let e = (goal.at.returns c).After-or in
+    let g = (goal.at.returns c).After-size_refusal in
+    let sized = sized_at g (records_at e) ∙ c.in_ok-size_refusal.was in
+    let portion = portion_in g in
+    let engines = front_good bs n count (records_at e) c.if-working-eq0.false portion
+    (ap is_ok (sym (sizes_left bs n count (records_at e) c.if-working-eq0.false portion) ∙ sized)) in
+    ap Ok
+    (c.facts_beside.ensures
+    ∙ ap₂ (λ (es : List ℕ) (a : Account). held (facts_beside (engines_in es) a)) c.split_at.ensures.front (account_is g)
+    ∙ facts_held _ _ engines (rear_within bs n count (records_at e) c.if-working-eq0.false portion)
+    ∙ facts_are bs n count (records_at e) c.if-working-eq0.false portion)
+    ∙ sym (late_at e ∙ passes _ sized)
