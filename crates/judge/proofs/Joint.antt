@@ -29,7 +29,6 @@ use Rattle.facts.proofs.Demands.{working_is, hauled_is, facts_agree}
 use Rattle.judge.specs.Answers.{refusal, size, train_around, account_around}
 use Rattle.judge.specs.declared.Refusal.{Refusal}
 use Rattle.judge.specs.declared.Refusal.TheVariants.{TooMany}
-use Rattle.judge.proofs.Trains.{working_each}
 
 -- behind any cases, what answers the same
 behind_same : (lent xs ys : List (Case Refusal)) → answered xs ≡ answered ys → answered (lent ++ xs) ≡ answered (lent ++ ys)
@@ -46,7 +45,7 @@ module _ (engines hauled : List ℕ) (lent : List (Case Refusal)) (e : GoodEngin
   train = vehicles_append engines hauled engines_whole
 
   each_working : Every Working (vehicles engines)
-  each_working = working_each (vehicles engines) (all_each is_working (vehicles engines) working)
+  each_working = all_each is_working (vehicles engines) working
 
   none_behind : some is_working (vehicles hauled) ≡ false
   none_behind = hauled_not_working (vehicles hauled) s.hauled

@@ -42,9 +42,6 @@ zero_first : (n : ℕ) → eqb n 0 ≡ not (ltb 0 n)
 zero_first zero = refl
 zero_first (suc n) = eqb-suc-zero n ∙ ap not (sym (lt-ltb 0 (suc n) (omega arith)))
 
-pub working_each : (xs : List Vehicle) → Every (λ v. is_working v ≡ true) xs → Every Working xs
-working_each = every_map (λ v. is_working v ≡ true) Working (λ v w. eqb-true v.kind 2 w)
-
 -- the first that does not pass, where all behind pass
 first_in_front : {A : Type 0} (p : A → Bool) (refused : ℕ → Refusal) (xs ys : List A) → all p ys ≡ true
     → cond (not (all p xs)) (Err (refused (leading p xs))) (Ok tt) ≡ cond {A = Result ⊤ Refusal} (not (all p (xs ++ ys))) (Err (refused (leading p (xs ++ ys)))) (Ok tt)
@@ -170,7 +167,7 @@ module _ (bs : List ℕ) (n : ℕ) (count : n ≡ leading is_working (vehicles b
 
         pub facts_are : facts_beside (vehicles front) (account_of (vehicles rear)) ≡ facts_of (vehicles bs)
         facts_are =
-            sym (facts_agree (vehicles front) (vehicles rear) (subst (λ (xs : List Vehicle). Every Working xs) working_is (working_each (working_of (vehicles bs)) (leading_each is_working (vehicles bs)))) (none_first is_working (vehicles rear) none_behind))
+            sym (facts_agree (vehicles front) (vehicles rear) (subst (λ (xs : List Vehicle). Every Working xs) working_is (leading_each is_working (vehicles bs))) (none_first is_working (vehicles rear) none_behind))
             ∙ ap facts_of (sym parted)
 
 -- ---- the groups of refusals, as the code comes to them: 1 and 2, 3, what is lent, and 11 to 14

@@ -5,15 +5,15 @@ ghost use Rattle.judge.specs.Answers.{bad_field, count_refusals, order_tests, en
 
 use crate::Refusal;
 use account::{Account, within_ceilings};
-use record::vehicle::{Found, MOST, SIZE, first_bad};
+use record::vehicle::{MOST, SIZE, first_bad};
 
 // 3.
 pub(crate) fn field_refusal(records: &[u8]) -> Result<(), Refusal>
     ensures { result ≡ answered (bad_field records.now ∷ []) }
 {
     match first_bad(records) {
-        Found::At(place) => Err(Refusal::BadField(place)),
-        Found::Nothing => Ok(()),
+        Some(place) => Err(Refusal::BadField(place)),
+        None => Ok(()),
     }
 }
 
