@@ -1,44 +1,35 @@
-// Document 01's number and place of an answer.
+// Document 01's number and place of an answer, to a sheet or to a route.
 #![tactic(auto)]
 
 ghost use Rattle.std.specs.Prelude.{◌≡◌};
-ghost use Rattle.judge.specs.Answers.{number_of, place_of};
+ghost use Rattle.judge.specs.Answers.{answer_number, answer_place};
 
-use judge::Answer;
+use judge::Refusal;
 
-pub fn number_of(answer: Answer) -> usize
-    ensures { result ≡ number_of answer }
+pub fn number_of<T: Drop>(answer: Result<T, Refusal>) -> usize
+    ensures { result ≡ answer_number answer }
 {
     match answer {
-        Answer::Done => 0,
-        Answer::NotWhole => 1,
-        Answer::TooMany => 2,
-        Answer::BadField(_) => 3,
-        Answer::BadOrder(_) => 4,
-        Answer::ShortSheet => 5,
-        Answer::AboveCeiling => 7,
-        Answer::NotWorking => 11,
-        Answer::WorkingBehind => 12,
-        Answer::ManyEngines => 13,
-        Answer::NothingHauled => 14,
+        Ok(_) => 0,
+        Err(Refusal::NotWhole) => 1,
+        Err(Refusal::TooMany) => 2,
+        Err(Refusal::BadField(_)) => 3,
+        Err(Refusal::BadOrder(_)) => 4,
+        Err(Refusal::ShortSheet) => 5,
+        Err(Refusal::AboveCeiling) => 7,
+        Err(Refusal::NotWorking) => 11,
+        Err(Refusal::WorkingBehind) => 12,
+        Err(Refusal::ManyEngines) => 13,
+        Err(Refusal::NothingHauled) => 14,
     }
 }
 
 // 0 save for number 3 and, on a route, number 4.
-pub fn place_of(answer: Answer) -> usize
-    ensures { result ≡ place_of answer }
+pub fn place_of<T: Drop>(answer: Result<T, Refusal>) -> usize
+    ensures { result ≡ answer_place answer }
 {
     match answer {
-        Answer::BadField(place) => place,
-        Answer::BadOrder(place) => place,
-        Answer::Done => 0,
-        Answer::NotWhole => 0,
-        Answer::TooMany => 0,
-        Answer::ShortSheet => 0,
-        Answer::AboveCeiling => 0,
-        Answer::NotWorking => 0,
-        Answer::WorkingBehind => 0,
-        Answer::ManyEngines => 0,
-        Answer::NothingHauled => 0,
+        Err(Refusal::BadField(place) | Refusal::BadOrder(place)) => place,
+        _ => 0,
     }
 }

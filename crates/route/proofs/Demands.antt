@@ -2,11 +2,14 @@
 use Prim.Native.Nat.{ℕ, ◌≤◌, ◌<◌}
 use native.Mathlib.Omega.{arith}
 use mathlib.Core.Path.{◌≡◌, refl, sym, ap, ap₂, ◌∙◌}
-use mathlib.Core.Bool.{Bool, true, false, not, ◌&&◌, ◌||◌, cond}
+use mathlib.Core.Bool.{Bool, true, false, not, ◌&&◌, ◌||◌, cond, false≢true}
 use mathlib.Core.List.{List, [], ◌∷◌, ◌++◌, map}
 use borrow.Author.Tests.{lt-ltb, le-ltb, ltb-false, ne_eqb, eqb-false, not-false}
 use lib.ListN.{length, take, drop, get_or, replicate}
-use Rattle.lists.specs.Words.{◌is◌, ◌above◌, all, leading, Every, Case, first_of, case_at}
+use Rattle.std.specs.Prelude.{Result, Ok, Err, is_ok, IsOk, ⊤}
+use Rattle.std.specs.Result.{result_unwrap_or}
+use Rattle.lists.specs.Words.{◌is◌, ◌above◌, all, leading, Every, Case, case_at}
+use Rattle.lists.specs.Refusals.{answered}
 use Rattle.lists.proofs.Lists.{neither}
 use Rattle.record.specs.Records.{record_count, records_of, is_whole}
 use Rattle.record.specs.Vehicles.{good, vehicles, is_working}
@@ -16,8 +19,6 @@ use Rattle.account.specs.Accounts.{account_of}
 use Rattle.account.specs.Portions.{accounted}
 use Rattle.account.specs.Groupings.{Grouping, uncut, joined_bytes, BetweenRecords, GoodPortion, NoneRefused}
 use Rattle.account.specs.declared.Account.{Account}
-use Rattle.account.specs.declared.Accounted.{Accounted}
-use Rattle.account.specs.declared.Answer.TheVariants.{Done as Accepted}
 use Rattle.account.proofs.Demands.{any_grouping_done, portion_done_exactly}
 use Rattle.facts.specs.Engines.{GoodEngines}
 use Rattle.facts.specs.Facts.{facts_of, beside_of, facts_beside}
@@ -37,51 +38,55 @@ use Rattle.sections.specs.Routes.{book_on, granted_on, speeds_on}
 use Rattle.sections.specs.Sections.{sections_of, asked_in, book_named_in, good_section, leading_good}
 use Rattle.sections.proofs.Demands.{sections_count, first_bad_section, cross_section_kept}
 use Rattle.sheets.specs.Sheets.{sheet_length}
-use Rattle.judge.specs.Answers.{number_of, place_of, refusal, is_done, order_refusals, record_refusals, engine_refusals, train_around, account_around, written}
+use Rattle.judge.specs.Answers.{number_of, place_of, refusal, order_refusals, record_refusals, engine_refusals, train_around, account_around, written}
 use Rattle.judge.specs.Answers as of-sheets
 use Rattle.judge.specs.Good.{GoodTrain, GoodWithAccount}
-use Rattle.judge.specs.declared.Answer.{Answer}
-use Rattle.judge.specs.declared.Answer.TheVariants.{Done, BadField, BadOrder, ShortSheet}
+use Rattle.judge.specs.declared.Refusal.{Refusal}
+use Rattle.judge.specs.declared.Refusal.TheVariants.{BadField, BadOrder, ShortSheet}
 use Rattle.judge.proofs.Demands as judge
 use Rattle.route.specs.Answers.{no_route, section_refusals, train_refusals, account_refusals, granted_for, speeds_for, route_by, train_answer, train_route, train_speeds, account_answer, account_route, account_speeds}
 use Rattle.route.specs.Good.{GoodOrders}
 use Rattle.route.specs.Shown.{Shows}
 use Rattle.route.specs.Withdrawn.{formerly_granted, former_speeds}
-use Rattle.route.proofs.Routes.{sections_refusing, some_bad_lem, sections_good, sections_room, speeds_long}
+use Rattle.route.proofs.Routes.{some_bad_lem, sections_good, sections_room, speeds_long}
 use Rattle.route.proofs.Shown.{shows_done}
 use Rattle.route.proofs.Withdrawn.{kept}
 use Rattle.route.proofs.Single.{single_granted, single_speeds, single_answer, section_alone, section_order, every_there}
 
 -- ---- demand 1: every input is answered
 -- "Refusals, in 01's order": the numbers, and their places; judge's answered_in_order says which is given
-pub train_numbers : (bs orders : List ℕ) (room : ℕ) → map (λ (r : Case Answer). number_of r.gives) (train_refusals bs orders room) ≡ 1 ∷ 2 ∷ 3 ∷ 4 ∷ 4 ∷ 5 ∷ 11 ∷ 12 ∷ 13 ∷ 14 ∷ []
+pub train_numbers : (bs orders : List ℕ) (room : ℕ) → map (λ (r : Case Refusal). number_of r.gives) (train_refusals bs orders room) ≡ 1 ∷ 2 ∷ 3 ∷ 4 ∷ 4 ∷ 5 ∷ 11 ∷ 12 ∷ 13 ∷ 14 ∷ []
 unfolding train_refusals
 train_numbers bs orders room = refl
 
 pub train_places : (bs orders : List ℕ) (room : ℕ)
-    → map (λ (r : Case Answer). place_of r.gives) (train_refusals bs orders room) ≡ 0 ∷ 0 ∷ leading good (records_of bs) ∷ 0 ∷ leading_good orders ∷ 0 ∷ 0 ∷ 0 ∷ 0 ∷ 0 ∷ []
+    → map (λ (r : Case Refusal). place_of r.gives) (train_refusals bs orders room) ≡ 0 ∷ 0 ∷ leading good (records_of bs) ∷ 0 ∷ leading_good orders ∷ 0 ∷ 0 ∷ 0 ∷ 0 ∷ 0 ∷ []
 unfolding train_refusals
 train_places bs orders room = refl
 
 pub account_numbers : (bs : List ℕ) (hauled : Account) (orders : List ℕ) (room : ℕ)
-    → map (λ (r : Case Answer). number_of r.gives) (account_refusals bs hauled orders room) ≡ 1 ∷ 7 ∷ 2 ∷ 3 ∷ 4 ∷ 4 ∷ 5 ∷ 11 ∷ 13 ∷ 14 ∷ []
+    → map (λ (r : Case Refusal). number_of r.gives) (account_refusals bs hauled orders room) ≡ 1 ∷ 7 ∷ 2 ∷ 3 ∷ 4 ∷ 4 ∷ 5 ∷ 11 ∷ 13 ∷ 14 ∷ []
 unfolding account_refusals
 account_numbers bs hauled orders room = refl
 
 pub account_places : (bs : List ℕ) (hauled : Account) (orders : List ℕ) (room : ℕ)
-    → map (λ (r : Case Answer). place_of r.gives) (account_refusals bs hauled orders room) ≡ 0 ∷ 0 ∷ 0 ∷ leading good (records_of bs) ∷ 0 ∷ leading_good orders ∷ 0 ∷ 0 ∷ 0 ∷ 0 ∷ []
+    → map (λ (r : Case Refusal). place_of r.gives) (account_refusals bs hauled orders room) ≡ 0 ∷ 0 ∷ 0 ∷ leading good (records_of bs) ∷ 0 ∷ leading_good orders ∷ 0 ∷ 0 ∷ 0 ∷ 0 ∷ []
 unfolding account_refusals
 account_places bs hauled orders room = refl
 
 -- "a refusal writes nothing and gives category 0"
-pub train_refused : (bs orders speeds : List ℕ) → is_done (train_answer bs orders (length speeds)) ≡ false
-    → ((train_route bs orders (length speeds)).granted ≡ 0) × (train_speeds bs orders speeds ≡ speeds)
-train_refused bs orders speeds e = (rw e, judge.refused_unwritten (train_answer bs orders (length speeds)) (speeds_for (facts_of (vehicles bs)) orders) speeds e)
+no_category : (answer : Result ⊤ Refusal) (granted : ℕ) → is_ok answer ≡ false → result_unwrap_or (route_by answer granted) 0 ≡ 0
+no_category (Ok x) granted e = absurd (false≢true (sym e))
+no_category (Err r) granted e = refl
 
-pub account_refused : (bs : List ℕ) (hauled : Account) (orders speeds : List ℕ) → is_done (account_answer bs hauled orders (length speeds)) ≡ false
-    → ((account_route bs hauled orders (length speeds)).granted ≡ 0) × (account_speeds bs hauled orders speeds ≡ speeds)
+pub train_refused : (bs orders speeds : List ℕ) → is_ok (train_answer bs orders (length speeds)) ≡ false
+    → (result_unwrap_or (train_route bs orders (length speeds)) 0 ≡ 0) × (train_speeds bs orders speeds ≡ speeds)
+train_refused bs orders speeds e = (no_category (train_answer bs orders (length speeds)) _ e, judge.refused_unwritten (train_answer bs orders (length speeds)) (speeds_for (facts_of (vehicles bs)) orders) speeds e)
+
+pub account_refused : (bs : List ℕ) (hauled : Account) (orders speeds : List ℕ) → is_ok (account_answer bs hauled orders (length speeds)) ≡ false
+    → (result_unwrap_or (account_route bs hauled orders (length speeds)) 0 ≡ 0) × (account_speeds bs hauled orders speeds ≡ speeds)
 account_refused bs hauled orders speeds e =
-    (rw e, judge.refused_unwritten (account_answer bs hauled orders (length speeds)) (speeds_for (facts_beside (vehicles bs) hauled) orders) speeds e)
+    (no_category (account_answer bs hauled orders (length speeds)) _ e, judge.refused_unwritten (account_answer bs hauled orders (length speeds)) (speeds_for (facts_beside (vehicles bs) hauled) orders) speeds e)
 
 -- "for each section one byte … and no byte beyond the last section's"
 pub one_byte_a_section : (f : Facts) (orders : List ℕ) → length (speeds_for f orders) ≡ record_count orders
@@ -89,7 +94,7 @@ one_byte_a_section = speeds_long
 
 -- 4 with its place: the first section with a field out of range, an asked category or a book other than the first section's
 pub bad_section : (orders : List ℕ) (room i : ℕ) → i < record_count orders → all (good_section (asked_in orders) (book_named_in orders)) (take i (records_of orders)) ≡ true
-    → good_section (asked_in orders) (book_named_in orders) (get_or (records_of orders) i []) ≡ false → case_at Done (section_refusals orders room) 1 ≡ refusal (BadOrder i) true
+    → good_section (asked_in orders) (book_named_in orders) (get_or (records_of orders) i []) ≡ false → case_at (BadOrder 0) (section_refusals orders room) 1 ≡ refusal (BadOrder i) true
 bad_section orders room i h before bad =
     let place = first_bad_section orders i h before bad in
     ap₂ (λ (k : ℕ) (b : Bool). refusal (BadOrder k) b) place (sym (some_bad_lem orders i (sym place)) ∙ lt-ltb i (record_count orders) h)
@@ -98,44 +103,44 @@ bad_section orders room i h before bad =
 module _ (orders speeds : List ℕ) (i : ℕ) (counted : no_route orders ≡ false) (h : i < record_count orders) (before : all (good_section (asked_in orders) (book_named_in orders)) (take i (records_of orders)) ≡ true)
     (bad : good_section (asked_in orders) (book_named_in orders) (get_or (records_of orders) i []) ≡ false) where
   -- the second of the orders' refusals
-  refused_there : first_of Done (section_refusals orders (length speeds)) ≡ BadOrder i
+  refused_there : answered (section_refusals orders (length speeds)) ≡ Err (BadOrder i)
   refused_there =
-      ap₂ (λ (b : Bool) (c : Case Answer). cond b (BadOrder 0) (cond c.applies c.gives (first_of Done (refusal ShortSheet (record_count orders above length speeds) ∷ []))))
+      ap₂ (λ (b : Bool) (c : Case Refusal). cond b (Err (BadOrder 0)) (cond c.applies (Err c.gives) (answered (refusal ShortSheet (record_count orders above length speeds) ∷ []))))
       counted (bad_section orders (length speeds) i h before bad)
 
   pub train_bad_section : (bs : List ℕ) → Every (λ r. r.applies ≡ false) (record_refusals bs)
-      → (train_route bs orders (length speeds) ≡ record { answer = BadOrder i; granted = 0 }) × (train_speeds bs orders speeds ≡ speeds)
+      → (train_route bs orders (length speeds) ≡ Err (BadOrder i)) × (train_speeds bs orders speeds ≡ speeds)
   unfolding train_refusals
   train_bad_section bs none =
-      let a = judge.train_lent_refused bs (section_refusals orders (length speeds)) (sections_refusing orders (length speeds)) none (ap is_done refused_there) ∙ refused_there in
-      (ap (λ (x : Answer). route_by x (granted_for (facts_of (vehicles bs)) orders)) a, (train_refused bs orders speeds (ap is_done a)).1)
+      let a = judge.train_lent_refused bs (section_refusals orders (length speeds)) none (ap is_ok refused_there) ∙ refused_there in
+      (ap (λ (x : Result ⊤ Refusal). route_by x (granted_for (facts_of (vehicles bs)) orders)) a, (train_refused bs orders speeds (ap is_ok a)).1)
 
   pub account_bad_section : (bs : List ℕ) (hauled : Account) → Every (λ r. r.applies ≡ false) (engine_refusals bs hauled)
-      → (account_route bs hauled orders (length speeds) ≡ record { answer = BadOrder i; granted = 0 }) × (account_speeds bs hauled orders speeds ≡ speeds)
+      → (account_route bs hauled orders (length speeds) ≡ Err (BadOrder i)) × (account_speeds bs hauled orders speeds ≡ speeds)
   unfolding account_refusals
   account_bad_section bs hauled none =
-      let a = judge.account_lent_refused bs hauled (section_refusals orders (length speeds)) (sections_refusing orders (length speeds)) none (ap is_done refused_there) ∙ refused_there in
-      (ap (λ (x : Answer). route_by x (granted_for (facts_beside (vehicles bs) hauled) orders)) a, (account_refused bs hauled orders speeds (ap is_done a)).1)
+      let a = judge.account_lent_refused bs hauled (section_refusals orders (length speeds)) none (ap is_ok refused_there) ∙ refused_there in
+      (ap (λ (x : Result ⊤ Refusal). route_by x (granted_for (facts_beside (vehicles bs) hauled) orders)) a, (account_refused bs hauled orders speeds (ap is_ok a)).1)
 
 -- request Two: of records that 1, 2 and 3 do not refuse (engines with an account: 1, 7, 2 and 3), with one digit of one number mistyped: 3 at that record's place, whatever the orders, category 0, and the bytes lent are as they were
 pub train_mistyped_answered : (bs other : List ℕ) (i : ℕ) → Mistyped bs other i → (orders speeds : List ℕ) → Every (λ r. r.applies ≡ false) (record_refusals bs)
-    → (train_route other orders (length speeds) ≡ record { answer = BadField i; granted = 0 }) × (train_speeds other orders speeds ≡ speeds)
+    → (train_route other orders (length speeds) ≡ Err (BadField i)) × (train_speeds other orders speeds ≡ speeds)
 unfolding train_refusals
 train_mistyped_answered bs other i m orders speeds none =
     let a = judge.train_mistyped bs other i m (section_refusals orders (length speeds)) none in
-    (ap (λ (x : Answer). route_by x (granted_for (facts_of (vehicles other)) orders)) a, (train_refused other orders speeds (ap is_done a)).1)
+    (ap (λ (x : Result ⊤ Refusal). route_by x (granted_for (facts_of (vehicles other)) orders)) a, (train_refused other orders speeds (ap is_ok a)).1)
 
 pub account_mistyped_answered : (bs other : List ℕ) (i : ℕ) → Mistyped bs other i → (hauled : Account) (orders speeds : List ℕ) → Every (λ r. r.applies ≡ false) (engine_refusals bs hauled)
-    → (account_route other hauled orders (length speeds) ≡ record { answer = BadField i; granted = 0 }) × (account_speeds other hauled orders speeds ≡ speeds)
+    → (account_route other hauled orders (length speeds) ≡ Err (BadField i)) × (account_speeds other hauled orders speeds ≡ speeds)
 unfolding account_refusals
 account_mistyped_answered bs other i m hauled orders speeds none =
     let a = judge.account_mistyped bs other i m hauled (section_refusals orders (length speeds)) none in
-    (ap (λ (x : Answer). route_by x (granted_for (facts_beside (vehicles other) hauled) orders)) a, (account_refused other hauled orders speeds (ap is_done a)).1)
+    (ap (λ (x : Result ⊤ Refusal). route_by x (granted_for (facts_beside (vehicles other) hauled) orders)) a, (account_refused other hauled orders speeds (ap is_ok a)).1)
 
 -- 4 at 0, 1, 64 and 65 sections and for 25 bytes, and 5 for two sections with room for one and for two
 pub section_limits :
-    (map (λ (n : ℕ). (case_at Done (section_refusals (replicate n 0) 0) 0).applies) (0 ∷ 24 ∷ 25 ∷ 1536 ∷ 1560 ∷ []) ≡ true ∷ false ∷ true ∷ false ∷ true ∷ [])
-    × (map (λ (room : ℕ). (case_at Done (section_refusals (replicate 48 0) room) 2).applies) (1 ∷ 2 ∷ []) ≡ true ∷ false ∷ [])
+    (map (λ (n : ℕ). (case_at (BadOrder 0) (section_refusals (replicate n 0) 0) 0).applies) (0 ∷ 24 ∷ 25 ∷ 1536 ∷ 1560 ∷ []) ≡ true ∷ false ∷ true ∷ false ∷ true ∷ [])
+    × (map (λ (room : ℕ). (case_at (BadOrder 0) (section_refusals (replicate 48 0) room) 2).applies) (1 ∷ 2 ∷ []) ≡ true ∷ false ∷ [])
 section_limits = (refl, refl)
 
 -- a route is done exactly when the train, or the engines with an account, are good as for a sheet, and so are its orders and the room
@@ -162,40 +167,40 @@ module _ (orders : List ℕ) (room : ℕ) where
       (counted, (ap not g.each, (le-ltb room (record_count orders) g.fits, tt)))
 
   pub train_done_exactly : (bs : List ℕ)
-      → (train_answer bs orders room ≡ Done → GoodTrain bs × GoodOrders orders room)
-      × (GoodTrain bs → GoodOrders orders room → train_answer bs orders room ≡ Done)
+      → (train_answer bs orders room ≡ Ok tt → GoodTrain bs × GoodOrders orders room)
+      × (GoodTrain bs → GoodOrders orders room → train_answer bs orders room ≡ Ok tt)
   unfolding train_refusals
   train_done_exactly bs =
-      let around = judge.train_done_around bs (section_refusals orders room) (sections_refusing orders room) in
+      let around = judge.train_done_around bs (section_refusals orders room) in
       (λ done. let g = around.0 done in (g.0, orders_good g.1), λ g l. around.1 g (good_orders l))
 
   pub account_done_exactly : (bs : List ℕ) (hauled : Account)
-      → (account_answer bs hauled orders room ≡ Done → GoodWithAccount bs hauled × GoodOrders orders room)
-      × (GoodWithAccount bs hauled → GoodOrders orders room → account_answer bs hauled orders room ≡ Done)
+      → (account_answer bs hauled orders room ≡ Ok tt → GoodWithAccount bs hauled × GoodOrders orders room)
+      × (GoodWithAccount bs hauled → GoodOrders orders room → account_answer bs hauled orders room ≡ Ok tt)
   unfolding account_refusals
   account_done_exactly bs hauled =
-      let around = judge.account_done_around bs hauled (section_refusals orders room) (sections_refusing orders room) in
+      let around = judge.account_done_around bs hauled (section_refusals orders room) in
       (λ done. let g = around.0 done in (g.0, orders_good g.1), λ g l. around.1 g (good_orders l))
 
 -- where a route is done, nothing is refused of its orders and the room
-train_orders : (bs orders : List ℕ) (room : ℕ) → train_answer bs orders room ≡ Done → Every (λ c. c.applies ≡ false) (section_refusals orders room)
+train_orders : (bs orders : List ℕ) (room : ℕ) → train_answer bs orders room ≡ Ok tt → Every (λ c. c.applies ≡ false) (section_refusals orders room)
 unfolding train_refusals
-train_orders bs orders room done = judge.train_lent bs (section_refusals orders room) (sections_refusing orders room) (ap is_done done)
+train_orders bs orders room done = judge.train_lent bs (section_refusals orders room) (ap is_ok done)
 
-account_orders : (bs : List ℕ) (hauled : Account) (orders : List ℕ) (room : ℕ) → account_answer bs hauled orders room ≡ Done → Every (λ c. c.applies ≡ false) (section_refusals orders room)
+account_orders : (bs : List ℕ) (hauled : Account) (orders : List ℕ) (room : ℕ) → account_answer bs hauled orders room ≡ Ok tt → Every (λ c. c.applies ≡ false) (section_refusals orders room)
 unfolding account_refusals
-account_orders bs hauled orders room done = judge.account_lent bs hauled (section_refusals orders room) (sections_refusing orders room) (ap is_done done)
+account_orders bs hauled orders room done = judge.account_lent bs hauled (section_refusals orders room) (ap is_ok done)
 
 -- ---- demand 2 over every section: what a route that is done gives
-pub train_shows : (bs orders speeds : List ℕ) → train_answer bs orders (length speeds) ≡ Done
-    → Shows (facts_of (vehicles bs)) (sections_of orders) (train_route bs orders (length speeds)).granted speeds (train_speeds bs orders speeds)
+pub train_shows : (bs orders speeds : List ℕ) → train_answer bs orders (length speeds) ≡ Ok tt
+    → Shows (facts_of (vehicles bs)) (sections_of orders) (result_unwrap_or (train_route bs orders (length speeds)) 0) speeds (train_speeds bs orders speeds)
 train_shows bs orders speeds done =
     shows_done (train_answer bs orders (length speeds)) (facts_of (vehicles bs)) orders speeds done
     (sections_good orders (length speeds) (train_orders bs orders (length speeds) done))
     (sections_room orders (length speeds) (train_orders bs orders (length speeds) done))
 
-pub account_shows : (bs : List ℕ) (hauled : Account) (orders speeds : List ℕ) → account_answer bs hauled orders (length speeds) ≡ Done
-    → Shows (facts_beside (vehicles bs) hauled) (sections_of orders) (account_route bs hauled orders (length speeds)).granted speeds (account_speeds bs hauled orders speeds)
+pub account_shows : (bs : List ℕ) (hauled : Account) (orders speeds : List ℕ) → account_answer bs hauled orders (length speeds) ≡ Ok tt
+    → Shows (facts_beside (vehicles bs) hauled) (sections_of orders) (result_unwrap_or (account_route bs hauled orders (length speeds)) 0) speeds (account_speeds bs hauled orders speeds)
 account_shows bs hauled orders speeds done =
     shows_done (account_answer bs hauled orders (length speeds)) (facts_beside (vehicles bs) hauled) orders speeds done
     (sections_good orders (length speeds) (account_orders bs hauled orders (length speeds) done))
@@ -206,17 +211,17 @@ module _ (order : List ℕ) (whole : length order ≡ 24) (sheet : List ℕ) (fi
   pub one_section_answer : (bs : List ℕ) → train_answer bs order (length (first ∷ rest)) ≡ of-sheets.train_answer bs order (length sheet)
   unfolding train_refusals of-sheets.train_refusals
   one_section_answer bs =
-      judge.train_around_same bs (section_refusals order (length (first ∷ rest))) (order_refusals order (length sheet)) (sections_refusing order (length (first ∷ rest))) (refl, (refl, tt))
+      judge.train_around_same bs (section_refusals order (length (first ∷ rest))) (order_refusals order (length sheet))
       (single_answer order whole (length (first ∷ rest)) (length sheet) (omega arith) fits)
 
-  pub one_section_granted : (bs : List ℕ) → of-sheets.train_answer bs order (length sheet) ≡ Done
-      → ((train_route bs order (length (first ∷ rest))).granted ≡ get_or (of-sheets.train_sheet bs order sheet) 1 0)
+  pub one_section_granted : (bs : List ℕ) → of-sheets.train_answer bs order (length sheet) ≡ Ok tt
+      → (result_unwrap_or (train_route bs order (length (first ∷ rest))) 0 ≡ get_or (of-sheets.train_sheet bs order sheet) 1 0)
       × (train_speeds bs order (first ∷ rest) ≡ get_or (of-sheets.train_sheet bs order sheet) 2 0 ∷ rest)
   one_section_granted bs done =
       let shown = judge.train_shows bs order sheet done in
       let same = one_section_answer bs ∙ done in (
-        ap (λ (a : Answer). (route_by a (granted_for (facts_of (vehicles bs)) order)).granted) same ∙ single_granted order whole (facts_of (vehicles bs)) ∙ sym shown.granted,
-        ap (λ (a : Answer). written a (speeds_for (facts_of (vehicles bs)) order) (first ∷ rest)) same
+        ap (λ (a : Result ⊤ Refusal). result_unwrap_or (route_by a (granted_for (facts_of (vehicles bs)) order)) 0) same ∙ single_granted order whole (facts_of (vehicles bs)) ∙ sym shown.granted,
+        ap (λ (a : Result ⊤ Refusal). written a (speeds_for (facts_of (vehicles bs)) order) (first ∷ rest)) same
             ∙ ap (λ (bytes : List ℕ). bytes ++ drop (length bytes) (first ∷ rest)) (single_speeds order whole (facts_of (vehicles bs)))
             ∙ ap (λ (s : ℕ). s ∷ rest) (sym shown.speed),
       )
@@ -224,18 +229,18 @@ module _ (order : List ℕ) (whole : length order ≡ 24) (sheet : List ℕ) (fi
   pub one_section_of_account : (bs : List ℕ) (hauled : Account) → account_answer bs hauled order (length (first ∷ rest)) ≡ of-sheets.account_answer bs hauled order (length sheet)
   unfolding account_refusals of-sheets.account_refusals
   one_section_of_account bs hauled =
-      judge.account_around_same bs hauled (section_refusals order (length (first ∷ rest))) (order_refusals order (length sheet)) (sections_refusing order (length (first ∷ rest))) (refl, (refl, tt))
+      judge.account_around_same bs hauled (section_refusals order (length (first ∷ rest))) (order_refusals order (length sheet))
       (single_answer order whole (length (first ∷ rest)) (length sheet) (omega arith) fits)
 
-  pub one_section_granted_of_account : (bs : List ℕ) (hauled : Account) → of-sheets.account_answer bs hauled order (length sheet) ≡ Done
-      → ((account_route bs hauled order (length (first ∷ rest))).granted ≡ get_or (of-sheets.account_sheet bs hauled order sheet) 1 0)
+  pub one_section_granted_of_account : (bs : List ℕ) (hauled : Account) → of-sheets.account_answer bs hauled order (length sheet) ≡ Ok tt
+      → (result_unwrap_or (account_route bs hauled order (length (first ∷ rest))) 0 ≡ get_or (of-sheets.account_sheet bs hauled order sheet) 1 0)
       × (account_speeds bs hauled order (first ∷ rest) ≡ get_or (of-sheets.account_sheet bs hauled order sheet) 2 0 ∷ rest)
   one_section_granted_of_account bs hauled done =
       let f = facts_beside (vehicles bs) hauled in
       let shown = judge.account_shows bs hauled order sheet done in
       let same = one_section_of_account bs hauled ∙ done in (
-        ap (λ (a : Answer). (route_by a (granted_for f order)).granted) same ∙ single_granted order whole f ∙ sym shown.granted,
-        ap (λ (a : Answer). written a (speeds_for f order) (first ∷ rest)) same
+        ap (λ (a : Result ⊤ Refusal). result_unwrap_or (route_by a (granted_for f order)) 0) same ∙ single_granted order whole f ∙ sym shown.granted,
+        ap (λ (a : Result ⊤ Refusal). written a (speeds_for f order) (first ∷ rest)) same
             ∙ ap (λ (bytes : List ℕ). bytes ++ drop (length bytes) (first ∷ rest)) (single_speeds order whole f)
             ∙ ap (λ (s : ℕ). s ∷ rest) (sym shown.speed),
       )
@@ -249,15 +254,15 @@ module _ (orders speeds sheet : List ℕ) (i : ℕ) (fits : sheet_length (order_
   abbrev order : List ℕ
   order = get_or (records_of orders) i []
 
-  module _ (bs : List ℕ) (done : train_answer bs orders (length speeds) ≡ Done) where
-    pub section_has_a_sheet : of-sheets.train_answer bs order (length sheet) ≡ Done
+  module _ (bs : List ℕ) (done : train_answer bs orders (length speeds) ≡ Ok tt) where
+    pub section_has_a_sheet : of-sheets.train_answer bs order (length sheet) ≡ Ok tt
     unfolding train_refusals of-sheets.train_refusals
     section_has_a_sheet =
-        sym (judge.train_around_same bs (section_refusals orders (length speeds)) (order_refusals order (length sheet)) (sections_refusing orders (length speeds)) (refl, (refl, tt))
+        sym (judge.train_around_same bs (section_refusals orders (length speeds)) (order_refusals order (length sheet))
         (section_alone orders (length speeds) (length sheet) i there fits (train_orders bs orders (length speeds) done)))
         ∙ done
 
-    pub section_sheet : get_or (of-sheets.train_sheet bs order sheet) 1 0 ≡ (train_route bs orders (length speeds)).granted → get_or (train_speeds bs orders speeds) i 0 ≡ get_or (of-sheets.train_sheet bs order sheet) 2 0
+    pub section_sheet : get_or (of-sheets.train_sheet bs order sheet) 1 0 ≡ result_unwrap_or (train_route bs orders (length speeds)) 0 → get_or (train_speeds bs orders speeds) i 0 ≡ get_or (of-sheets.train_sheet bs order sheet) 2 0
     section_sheet same =
         let shown = judge.train_shows bs order sheet section_has_a_sheet in
         let o = section_order orders i there in
@@ -266,15 +271,15 @@ module _ (orders speeds sheet : List ℕ) (i : ℕ) (fits : sheet_length (order_
         let same-grant = alone_by (facts_of (vehicles bs)) (get_or (sections_of orders) i no_order) (order_of order) o (book_on (sections_of orders)) (every_there (λ (x : Order). x.book ≡ book_on (sections_of orders)) (sections_of orders) i within all.books) in
         all.alone i within (ap (λ (g : Best). g.number) same-grant ∙ sym shown.granted ∙ same) ∙ ap (λ (g : Best). g.speed) same-grant ∙ sym shown.speed
 
-  module _ (bs : List ℕ) (hauled : Account) (done : account_answer bs hauled orders (length speeds) ≡ Done) where
-    pub section_has_a_sheet_of_account : of-sheets.account_answer bs hauled order (length sheet) ≡ Done
+  module _ (bs : List ℕ) (hauled : Account) (done : account_answer bs hauled orders (length speeds) ≡ Ok tt) where
+    pub section_has_a_sheet_of_account : of-sheets.account_answer bs hauled order (length sheet) ≡ Ok tt
     unfolding account_refusals of-sheets.account_refusals
     section_has_a_sheet_of_account =
-        sym (judge.account_around_same bs hauled (section_refusals orders (length speeds)) (order_refusals order (length sheet)) (sections_refusing orders (length speeds)) (refl, (refl, tt))
+        sym (judge.account_around_same bs hauled (section_refusals orders (length speeds)) (order_refusals order (length sheet))
         (section_alone orders (length speeds) (length sheet) i there fits (account_orders bs hauled orders (length speeds) done)))
         ∙ done
 
-    pub section_sheet_of_account : get_or (of-sheets.account_sheet bs hauled order sheet) 1 0 ≡ (account_route bs hauled orders (length speeds)).granted
+    pub section_sheet_of_account : get_or (of-sheets.account_sheet bs hauled order sheet) 1 0 ≡ result_unwrap_or (account_route bs hauled orders (length speeds)) 0
         → get_or (account_speeds bs hauled orders speeds) i 0 ≡ get_or (of-sheets.account_sheet bs hauled order sheet) 2 0
     section_sheet_of_account same =
         let f = facts_beside (vehicles bs) hauled in
@@ -288,25 +293,25 @@ module _ (orders speeds sheet : List ℕ) (i : ℕ) (fits : sheet_length (order_
 -- ---- "Demand 3 stands unchanged, since the account knows no line"
 -- with one or two good working engines in front, portions cut anywhere between records and joined in any grouping give the route of the uncut train
 module _ (engines : List ℕ) (g : Grouping ℕ) (orders speeds : List ℕ) (e : GoodEngines engines) (working : all is_working (vehicles engines) ≡ true) (cut : BetweenRecords g) where
-  pub route_from_account : (accounted (uncut g)).answer ≡ Accepted
-      → (account_route engines (joined_bytes g).account orders (length speeds) ≡ train_route (engines ++ uncut g) orders (length speeds))
-      × (account_speeds engines (joined_bytes g).account orders speeds ≡ train_speeds (engines ++ uncut g) orders speeds)
+  pub route_from_account : IsOk (accounted (uncut g)) → (joined : Account) → joined_bytes g ≡ Ok joined
+      → (account_route engines joined orders (length speeds) ≡ train_route (engines ++ uncut g) orders (length speeds))
+      × (account_speeds engines joined orders speeds ≡ train_speeds (engines ++ uncut g) orders speeds)
   unfolding account_refusals train_refusals
-  route_from_account done =
-      let a = judge.answer_from_account engines g e working cut done (section_refusals orders (length speeds)) in
-      let f = judge.facts_from_account engines g e working cut done in
-      (ap₂ (λ (x : Answer) (h : Facts). route_by x (granted_for h orders)) a f, ap₂ (λ (x : Answer) (h : Facts). written x (speeds_for h orders) speeds) a f)
+  route_from_account done joined gives =
+      let a = judge.answer_from_account engines g e working cut done joined gives (section_refusals orders (length speeds)) in
+      let f = judge.facts_from_account engines g e working cut done joined gives in
+      (ap₂ (λ (x : Result ⊤ Refusal) (h : Facts). route_by x (granted_for h orders)) a f, ap₂ (λ (x : Result ⊤ Refusal) (h : Facts). written x (speeds_for h orders) speeds) a f)
 
   -- from the records alone: each good, none a working engine, at most 200; then no call is refused
   pub route_from_portions : GoodPortion (uncut g)
       → NoneRefused g
-      × ((joined_bytes g).account ≡ account_of (vehicles (uncut g)))
-      × (account_route engines (joined_bytes g).account orders (length speeds) ≡ train_route (engines ++ uncut g) orders (length speeds))
-      × (account_speeds engines (joined_bytes g).account orders speeds ≡ train_speeds (engines ++ uncut g) orders speeds)
+      × (joined_bytes g ≡ Ok (account_of (vehicles (uncut g))))
+      × (account_route engines (account_of (vehicles (uncut g))) orders (length speeds) ≡ train_route (engines ++ uncut g) orders (length speeds))
+      × (account_speeds engines (account_of (vehicles (uncut g))) orders speeds ≡ train_speeds (engines ++ uncut g) orders speeds)
   route_from_portions good =
       let d = any_grouping_done g cut good in
-      let s = route_from_account (ap (λ (r : Accounted). r.answer) ((portion_done_exactly (uncut g)).1 good)) in
-      (d.0, ap (λ (r : Accounted). r.account) d.1, s.0, s.1)
+      let s = route_from_account (ap is_ok ((portion_done_exactly (uncut g)).1 good)) (account_of (vehicles (uncut g))) d.1 in
+      (d.0, d.1, s.0, s.1)
 
 -- ---- a route whose first section names the cross-border book: the domestic book has no say in what it is answered and given
 module _ (orders : List ℕ) (cross : book_on (sections_of orders) ≡ CrossBorder) where
@@ -315,7 +320,7 @@ module _ (orders : List ℕ) (cross : book_on (sections_of orders) ≡ CrossBord
   cross_section r = in_ranges cross_border_fields r && (order_of r).asked is asked_in orders
 
   -- 4, and 4 with its place, by such a test of a section, and 5
-  abbrev refused_by : (List ℕ → Bool) → ℕ → List (Case Answer)
+  abbrev refused_by : (List ℕ → Bool) → ℕ → List (Case Refusal)
   refused_by good room =
       refusal (BadOrder 0) (no_route orders)
       ∷ refusal (BadOrder (leading good (records_of orders))) (not (all good (records_of orders)))
@@ -337,26 +342,26 @@ module _ (orders : List ℕ) (cross : book_on (sections_of orders) ≡ CrossBord
 
   -- so the whole call, of a train and of engines with an account
   pub cross_train_kept : (bs speeds : List ℕ)
-      → (train_route bs orders (length speeds) ≡ route_by (first_of Done (train_around bs (refused_by cross_section (length speeds)))) (granted_on cross_border (facts_of (vehicles bs)) (sections_of orders)).number)
+      → (train_route bs orders (length speeds) ≡ route_by (answered (train_around bs (refused_by cross_section (length speeds)))) (granted_on cross_border (facts_of (vehicles bs)) (sections_of orders)).number)
       × (train_speeds bs orders speeds
-      ≡ written (first_of Done (train_around bs (refused_by cross_section (length speeds)))) (speeds_on cross_border (granted_on cross_border (facts_of (vehicles bs)) (sections_of orders)).number (facts_of (vehicles bs)) (sections_of orders)) speeds)
+      ≡ written (answered (train_around bs (refused_by cross_section (length speeds)))) (speeds_on cross_border (granted_on cross_border (facts_of (vehicles bs)) (sections_of orders)).number (facts_of (vehicles bs)) (sections_of orders)) speeds)
   unfolding train_refusals
   cross_train_kept bs speeds =
       let f = facts_of (vehicles bs) in
       let lent = cross_refusals_kept (length speeds) in
-      ((λ i. route_by (first_of Done (train_around bs (lent i))) (cross_granted_kept f i)), λ i. written (first_of Done (train_around bs (lent i))) (cross_speeds_kept f i) speeds)
+      ((λ i. route_by (answered (train_around bs (lent i))) (cross_granted_kept f i)), λ i. written (answered (train_around bs (lent i))) (cross_speeds_kept f i) speeds)
 
   pub cross_account_kept : (bs : List ℕ) (hauled : Account) (speeds : List ℕ)
       → (account_route bs hauled orders (length speeds)
-      ≡ route_by (first_of Done (account_around bs hauled (refused_by cross_section (length speeds)))) (granted_on cross_border (facts_beside (vehicles bs) hauled) (sections_of orders)).number)
+      ≡ route_by (answered (account_around bs hauled (refused_by cross_section (length speeds)))) (granted_on cross_border (facts_beside (vehicles bs) hauled) (sections_of orders)).number)
       × (account_speeds bs hauled orders speeds
-      ≡ written (first_of Done (account_around bs hauled (refused_by cross_section (length speeds))))
+      ≡ written (answered (account_around bs hauled (refused_by cross_section (length speeds))))
       (speeds_on cross_border (granted_on cross_border (facts_beside (vehicles bs) hauled) (sections_of orders)).number (facts_beside (vehicles bs) hauled) (sections_of orders)) speeds)
   unfolding account_refusals
   cross_account_kept bs hauled speeds =
       let f = facts_beside (vehicles bs) hauled in
       let lent = cross_refusals_kept (length speeds) in
-      ((λ i. route_by (first_of Done (account_around bs hauled (lent i))) (cross_granted_kept f i)), λ i. written (first_of Done (account_around bs hauled (lent i))) (cross_speeds_kept f i) speeds)
+      ((λ i. route_by (answered (account_around bs hauled (lent i))) (cross_granted_kept f i)), λ i. written (answered (account_around bs hauled (lent i))) (cross_speeds_kept f i) speeds)
 
   -- ---- rule 46, withdrawn by request Five: no train's route is another than by the former list
   pub train_route_kept : (bs speeds : List ℕ)

@@ -7,6 +7,8 @@ use mathlib.Core.List.{List, [], ◌∷◌, ◌++◌}
 use mathlib.Core.Logic.{◌⊎◌, inl, inr}
 use lib.ListN.{length, get_or, drop, length-append, length-drop}
 use lib.Seq.{drop_at}
+use Rattle.std.specs.Prelude.{Result, Ok, ⊤}
+use Rattle.std.specs.Result.{result_unwrap_or}
 use Rattle.lists.specs.Words.{all}
 use Rattle.record.specs.Records.{record_count, records_of}
 use Rattle.facts.specs.declared.Facts.{Facts}
@@ -21,8 +23,7 @@ use Rattle.sections.specs.Routes.{book_on, slowest_of, granted_on, section_speed
 use Rattle.sections.specs.Sections.{sections_of, asked_in, book_named_in, good_section}
 use Rattle.sections.proofs.Demands as sections
 use Rattle.judge.specs.Answers.{written}
-use Rattle.judge.specs.declared.Answer.{Answer}
-use Rattle.judge.specs.declared.Answer.TheVariants.{Done}
+use Rattle.judge.specs.declared.Refusal.{Refusal}
 use Rattle.route.specs.Answers.{book_for, granted_for, speeds_for, route_by}
 use Rattle.route.specs.Shown.{Shows}
 use Rattle.route.proofs.Routes.{speeds_long}
@@ -101,7 +102,7 @@ module _ (f : Facts) (orders before : List ℕ) (good : all (good_section (asked
       }
 
 -- of a call that is done
-pub shows_done : (answer : Answer) (f : Facts) (orders before : List ℕ) → answer ≡ Done → all (good_section (asked_in orders) (book_named_in orders)) (records_of orders) ≡ true → record_count orders ≤ length before
-    → Shows f (sections_of orders) (route_by answer (granted_for f orders)).granted before (written answer (speeds_for f orders) before)
+pub shows_done : (answer : Result ⊤ Refusal) (f : Facts) (orders before : List ℕ) → answer ≡ Ok tt → all (good_section (asked_in orders) (book_named_in orders)) (records_of orders) ≡ true → record_count orders ≤ length before
+    → Shows f (sections_of orders) (result_unwrap_or (route_by answer (granted_for f orders)) 0) before (written answer (speeds_for f orders) before)
 shows_done answer f orders before e good room =
-    subst (λ (a : Answer). Shows f (sections_of orders) (route_by a (granted_for f orders)).granted before (written a (speeds_for f orders) before)) (sym e) (shows_over f orders before good room)
+    subst (λ (a : Result ⊤ Refusal). Shows f (sections_of orders) (result_unwrap_or (route_by a (granted_for f orders)) 0) before (written a (speeds_for f orders) before)) (sym e) (shows_over f orders before good room)

@@ -8,7 +8,9 @@ use borrow.Author.Tests.{le-ltb}
 use lib.Dec.{ltb}
 use lib.ListN.{length, get_or}
 use lib.Seq.{take_all}
-use Rattle.lists.specs.Words.{◌is◌, all, leading, Every, first_of}
+use Rattle.std.specs.Prelude.{Result, Ok, Err, ⊤}
+use Rattle.lists.specs.Words.{◌is◌, all, leading, Every}
+use Rattle.lists.specs.Refusals.{answered}
 use Rattle.lists.proofs.Lists.{both, all_at}
 use Rattle.record.proofs.Records.{length_records}
 use Rattle.record.specs.Records.{records, record_count, records_of}
@@ -24,8 +26,8 @@ use Rattle.sections.specs.Sections.{sections_of, asked_in, book_named_in, same_b
 use Rattle.sections.proofs.Demands.{one_section, one_section_speed, first_asks_itself}
 use Rattle.sheets.specs.Sheets.{sheet_length}
 use Rattle.judge.specs.Answers.{order_refusals}
-use Rattle.judge.specs.declared.Answer.{Answer}
-use Rattle.judge.specs.declared.Answer.TheVariants.{Done, BadOrder, ShortSheet}
+use Rattle.judge.specs.declared.Refusal.{Refusal}
+use Rattle.judge.specs.declared.Refusal.TheVariants.{BadOrder, ShortSheet}
 use Rattle.judge.proofs.Demands.{done_when_none_applies}
 use Rattle.route.specs.Answers.{no_route, section_refusals, book_for, granted_for, speeds_for}
 use Rattle.route.proofs.Routes.{sections_good}
@@ -64,24 +66,24 @@ module _ (order : List ℕ) (whole : length order ≡ 24) where
   one_route = rw whole
 
   -- the three tests, of so many records
-  abbrev tests : Bool → List (List ℕ) → Bool → Answer
-  tests x rs y = cond x (BadOrder 0) (cond (not (all same rs)) (BadOrder (leading same rs)) (cond y ShortSheet Done))
+  abbrev tests : Bool → List (List ℕ) → Bool → Result ⊤ Refusal
+  tests x rs y = cond x (Err (BadOrder 0)) (cond (not (all same rs)) (Err (BadOrder (leading same rs))) (cond y (Err ShortSheet) (Ok tt)))
 
-  by_the_order : tests false (order ∷ []) false ≡ cond (not (good_order order)) (BadOrder 0) Done
+  by_the_order : tests false (order ∷ []) false ≡ cond (not (good_order order)) (Err (BadOrder 0)) (Ok tt)
   unfolding all
-  by_the_order = go (same order) ∙ ap (λ (b : Bool). cond (not b) (BadOrder 0) Done) same_good
+  by_the_order = go (same order) ∙ ap (λ (b : Bool). cond (not b) (Err (BadOrder 0)) (Ok tt)) same_good
     where
-      go : (b : Bool) → cond (not (b && true)) (BadOrder (cond b 1 0)) Done ≡ cond (not b) (BadOrder 0) Done
+      go : (b : Bool) → cond {A = Result ⊤ Refusal} (not (b && true)) (Err (BadOrder (cond b 1 0))) (Ok tt) ≡ cond (not b) (Err (BadOrder 0)) (Ok tt)
       go true = refl
       go false = refl
 
   -- 4 with place 0 exactly when a sheet's order is refused so, where both have room
-  pub single_answer : (room sheet : ℕ) → 1 ≤ room → sheet_length (order_of order).book ≤ sheet → first_of Done (section_refusals order room) ≡ first_of Done (order_refusals order sheet)
+  pub single_answer : (room sheet : ℕ) → 1 ≤ room → sheet_length (order_of order).book ≤ sheet → answered (section_refusals order room) ≡ answered (order_refusals order sheet)
   single_answer room sheet enough fits =
       let room-for-one = ap (λ (n : ℕ). ltb room (n / 24)) whole ∙ le-ltb room 1 enough in
       ◌∙◌ {b = tests false (order ∷ []) false}
       (λ i. tests (one_route i) (one_record i) (room-for-one i))
-      (by_the_order ∙ ap (λ (b : Bool). cond (not (good_order order)) (BadOrder 0) (cond b ShortSheet Done)) (sym (le-ltb sheet (sheet_length (order_of order).book) fits)))
+      (by_the_order ∙ ap (λ (b : Bool). cond (not (good_order order)) (Err (BadOrder 0)) (cond b (Err ShortSheet) (Ok tt))) (sym (le-ltb sheet (sheet_length (order_of order).book) fits)))
 
 -- ---- one of many sections, alone
 pub every_there : (P : Order → Type 0) (os : List Order) (i : ℕ) → i < length os → Every P os → P (get_or os i no_order)
@@ -100,7 +102,7 @@ module _ (orders : List ℕ) where
 
   -- where nothing is refused of a route's orders, nothing is of one of them and a sheet
   pub section_alone : (room sheet i : ℕ) → i < record_count orders → sheet_length (order_of (get_or (records_of orders) i [])).book ≤ sheet → Every (λ c. c.applies ≡ false) (section_refusals orders room)
-      → first_of Done (section_refusals orders room) ≡ first_of Done (order_refusals (get_or (records_of orders) i []) sheet)
+      → answered (section_refusals orders room) ≡ answered (order_refusals (get_or (records_of orders) i []) sheet)
   unfolding good_section
   section_alone room sheet i there fits none =
       let p = good_section (asked_in orders) (book_named_in orders) in
