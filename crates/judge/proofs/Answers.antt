@@ -6,7 +6,7 @@ use Rattle.std.specs.Prelude.{Result, Ok, Err, is_ok, ⊤}
 use Rattle.std.specs.Result.{result_and, result_or}
 use Rattle.lists.specs.Words.{Every, Case}
 use Rattle.lists.specs.Refusals.{answered}
-use Rattle.lists.proofs.Refusals.{none_of, none_refuses, answered_append}
+use Rattle.lists.proofs.Refusals.{none_refuses, answered_append}
 
 pub ok_is : {E : Type 0} (a : Result ⊤ E) → is_ok a ≡ true → a ≡ Ok tt
 ok_is (Ok x) h = refl

@@ -21,12 +21,11 @@ use Rattle.account.specs.declared.Account.{Account}
 use Rattle.account.proofs.Demands.{within_exactly}
 use Rattle.facts.specs.Engines.{GoodEngines}
 use Rattle.facts.specs.Facts.{facts_beside}
-use Rattle.facts.specs.declared.Facts.{Facts}
 use Rattle.judge.specs.Answers.{size, engine_refusals, engine_shape}
 use Rattle.judge.specs.Judging.{account_judged}
 use Rattle.judge.specs.declared.Refusal.{Refusal}
 use Rattle.judge.specs.declared.Refusal.TheVariants.{NotWorking}
-use Rattle.judge.proofs.Answers.{stops, passes}
+use Rattle.judge.proofs.Answers.{passes}
 
 -- a list that is not empty, of whole records
 pub whole_some : (bs : List ℕ) → (eqb (length bs) 0 || not (is_whole bs)) ≡ false → (length bs % 24 ≡ 0) × (24 ≤ length bs)

@@ -8,7 +8,7 @@ use borrow.Author.Tests.{ltb-false, not-false}
 use lib.ListN.{length, drop}
 use Rattle.std.specs.Prelude.{Result, Ok, Err, is_ok, ⊤}
 use Rattle.std.specs.Result.{result_and}
-use Rattle.lists.specs.Words.{Every, Case}
+use Rattle.lists.specs.Words.{Case}
 use Rattle.lists.specs.Refusals.{answered}
 use Rattle.lists.proofs.Refusals.{none_of}
 use Rattle.record.specs.Vehicles.{vehicles}

@@ -19,7 +19,7 @@ use Rattle.categories.specs.declared.category.Category.{Category}
 use Rattle.rules.specs.CrossBorder.{cross_border}
 use Rattle.rules.specs.Rules.{first_broken}
 use Rattle.rules.specs.Books.{rules_of, broken_by}
-use Rattle.rules.specs.Grants.{granted_of, decision_of, Among, Offered}
+use Rattle.rules.specs.Grants.{granted_of, granted_number, granted_speed, decision_of, Among, Offered}
 use Rattle.rules.proofs.Demands as rules
 use Rattle.domestic.specs.Rules.{domestic}
 use Rattle.books.specs.Books.{book_of}
@@ -36,8 +36,8 @@ module _ (f : Facts) (o : Order) (rest : List ℕ) where
   ByBook b =
       (get_or (sheet_of (book_of b) f o ++ rest) 3 0 ≡ first_broken ((book_of b).common f))
       × (take (length (book_of b).rows) (drop 4 (sheet_of (book_of b) f o ++ rest)) ≡ map (λ c. first_broken (rules_of (book_of b) c f o)) (book_of b).rows)
-      × (get_or (sheet_of (book_of b) f o ++ rest) 1 0 ≡ (granted_of (book_of b) f o).number)
-      × (get_or (sheet_of (book_of b) f o ++ rest) 2 0 ≡ (granted_of (book_of b) f o).speed)
+      × (get_or (sheet_of (book_of b) f o ++ rest) 1 0 ≡ granted_number (granted_of (book_of b) f o))
+      × (get_or (sheet_of (book_of b) f o ++ rest) 2 0 ≡ granted_speed (granted_of (book_of b) f o))
       × (take 3 (drop (margin_at b) (sheet_of (book_of b) f o ++ rest)) ≡ take 3 (drop (margin_at b) (sheet_of (book_of b) f o)))
 
   by_book : (b : Book) → ByBook b
@@ -78,7 +78,7 @@ module _ (f : Facts) (o : Order) (rest : List ℕ) where
         none = λ z c a asked u. rules.none_granted book f o sound (sym x.2 ∙ z) c a (record { asked = asked; unbroken = sym (byte c a) ∙ u });
         broken = λ h. x.2 ∙ rules.all_broken book f o sound (λ c a m. h c a m.asked (byte c a ∙ m.unbroken));
         no_speed = λ z. x.3 ∙ rules.no_speed_lem book f o sound (sym x.2 ∙ z);
-        stands = λ p. subst (λ (n : ℕ). Offered book f o n (get_or (sheet_of book f o ++ rest) 2 0)) (sym x.2) (subst (Offered book f o (granted_of book f o).number) (sym x.3) (rules.granted_stands book f o sound (subst (λ (n : ℕ). 0 < n) x.2 p)));
+        stands = λ p. subst (λ (n : ℕ). Offered book f o n (get_or (sheet_of book f o ++ rest) 2 0)) (sym x.2) (subst (Offered book f o (granted_number (granted_of book f o))) (sym x.3) (rules.granted_stands book f o sound (subst (λ (n : ℕ). 0 < n) x.2 p)));
         fastest = λ c a m. subst (λ (s : ℕ). speed_of c f o ≤ s) (sym x.3) (rules.granted_is_fastest book f o sound c a m);
         lowest = λ c a m e. subst (λ (n : ℕ). n ≤ c.number) (sym x.2) (rules.lowest_at_a_tie book f o sound c a m (e ∙ x.3));
         margin = margin;

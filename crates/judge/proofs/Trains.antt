@@ -1,16 +1,16 @@
 -- A whole train parted into its working engines and what they haul: what it is answered, and its facts. Assumes nothing.
 use Prim.Native.Nat.{ℕ, zero, suc, ◌*◌, ◌%◌, ◌≤◌}
 use native.Mathlib.Omega.{arith}
-use mathlib.Core.Path.{◌≡◌, refl, sym, ap, ap₂, ◌∙◌, subst}
+use mathlib.Core.Path.{◌≡◌, refl, sym, ap, ◌∙◌, subst}
 use mathlib.Core.Bool.{Bool, true, false, ◌&&◌, not, cond, false≢true}
 use mathlib.Core.List.{List, [], ◌∷◌, ◌++◌}
-use borrow.Author.Tests.{eq-eqb, ne_eqb, eqb-true, ltb-false, lt-ltb, not-false}
+use borrow.Author.Tests.{eq-eqb, ne_eqb, ltb-false, lt-ltb, not-false}
 use lib.Dec.{eqb, ltb, eqb-suc-zero}
 use lib.ListN.{length, take, drop, length-drop, take-append-drop}
 use lib.Seq.{take_at, drop_at, length-take-le}
 use Rattle.std.specs.Prelude.{Result, Ok, Err, is_ok, ⊤}
 use Rattle.std.specs.Result.{result_and}
-use Rattle.lists.specs.Words.{◌is◌, all, leading, Every}
+use Rattle.lists.specs.Words.{all, leading, Every}
 use Rattle.lists.specs.Refusals.{answered}
 use Rattle.lists.specs.Figures.{some, first_is}
 use Rattle.lists.proofs.Lists.{both, all_append, every_map, leading_each}
@@ -29,7 +29,6 @@ use Rattle.account.specs.declared.Account.{Account}
 use Rattle.account.proofs.Demands.{portion_done_exactly, portion_of, within_ceilings, hauled_each, hauled_not_working}
 use Rattle.facts.specs.Engines.{GoodEngines}
 use Rattle.facts.specs.Facts.{working_of, hauled_of, facts_of, facts_beside, Working}
-use Rattle.facts.specs.declared.Facts.{Facts}
 use Rattle.facts.proofs.Demands.{facts_agree}
 use Rattle.judge.specs.Answers.{bad_field, count_refusals, record_refusals, size, train_shape}
 use Rattle.judge.specs.Judging.{train_judged, GoodRecords}

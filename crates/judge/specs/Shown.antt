@@ -10,7 +10,7 @@ use Rattle.categories.specs.Brakes.{margin_for}
 use Rattle.categories.specs.declared.category.Category.{Category}
 use Rattle.rules.specs.Rules.{first_broken, is_short}
 use Rattle.rules.specs.Books.{RuleBook, rules_of}
-use Rattle.rules.specs.Grants.{granted_of, MayBeGranted, Among, Offered}
+use Rattle.rules.specs.Grants.{granted_of, granted_number, granted_speed, MayBeGranted, Among, Offered}
 use Rattle.books.specs.Books.{book_of}
 use Rattle.sheets.specs.Sheets.{margin_at, asked_of}
 
@@ -30,8 +30,8 @@ pub record Shows (f : Facts) (o : Order) (sheet : List ℕ) : Type 0 where
   pub zero : (c : Category) → Among c (book_by o).rows → byte_of c sheet ≡ 0 → Every (λ r. r.applies ≡ false) (rules_of (book_by o) c f o)
   pub unbroken : (c : Category) → Among c (book_by o).rows → Every (λ r. r.applies ≡ false) (rules_of (book_by o) c f o) → byte_of c sheet ≡ 0
   -- bytes 1 and 2 the category granted and its speed, or 0 and 0
-  pub granted : get_or sheet 1 0 ≡ (granted_of (book_by o) f o).number
-  pub speed : get_or sheet 2 0 ≡ (granted_of (book_by o) f o).speed
+  pub granted : get_or sheet 1 0 ≡ granted_number (granted_of (book_by o) f o)
+  pub speed : get_or sheet 2 0 ≡ granted_speed (granted_of (book_by o) f o)
   -- none is granted exactly when every category from the asked on breaks a rule, and then at no speed
   pub none : get_or sheet 1 0 ≡ 0 → (c : Category) → Among c (book_by o).rows → o.asked ≤ c.number → byte_of c sheet ≡ 0 → ⊥
   pub broken : ((c : Category) → Among c (book_by o).rows → o.asked ≤ c.number → byte_of c sheet ≡ 0 → ⊥) → get_or sheet 1 0 ≡ 0

@@ -30,8 +30,7 @@ use Rattle.order.specs.declared.Book.TheVariants.{CrossBorder}
 use Rattle.order.specs.declared.Order.{Order}
 use Rattle.books.specs.Books.{book_of}
 use Rattle.rules.specs.CrossBorder.{cross_border}
-use Rattle.rules.specs.Grants.{granted_of}
-use Rattle.rules.specs.declared.grant.Best.{Best}
+use Rattle.rules.specs.Grants.{granted_of, granted_number, granted_speed}
 use Rattle.rules.specs.Withdrawn.{longer}
 use Rattle.rules.proofs.Demands.{train_not_longer, account_not_longer}
 use Rattle.sections.specs.Routes.{book_on, granted_on, speeds_on}
@@ -269,7 +268,7 @@ module _ (orders speeds sheet : List ℕ) (i : ℕ) (fits : sheet_length (order_
         let all = train_shows bs orders speeds done in
         let within : i < length (sections_of orders) = omega (arith, there, sections_count orders) in
         let same-grant = alone_by (facts_of (vehicles bs)) (get_or (sections_of orders) i no_order) (order_of order) o (book_on (sections_of orders)) (every_there (λ (x : Order). x.book ≡ book_on (sections_of orders)) (sections_of orders) i within all.books) in
-        all.alone i within (ap (λ (g : Best). g.number) same-grant ∙ sym shown.granted ∙ same) ∙ ap (λ (g : Best). g.speed) same-grant ∙ sym shown.speed
+        all.alone i within (ap granted_number same-grant ∙ sym shown.granted ∙ same) ∙ ap granted_speed same-grant ∙ sym shown.speed
 
   module _ (bs : List ℕ) (hauled : Account) (done : account_answer bs hauled orders (length speeds) ≡ Ok tt) where
     pub section_has_a_sheet_of_account : of-sheets.account_answer bs hauled order (length sheet) ≡ Ok tt
@@ -288,7 +287,7 @@ module _ (orders speeds sheet : List ℕ) (i : ℕ) (fits : sheet_length (order_
         let all = account_shows bs hauled orders speeds done in
         let within : i < length (sections_of orders) = omega (arith, there, sections_count orders) in
         let same-grant = alone_by f (get_or (sections_of orders) i no_order) (order_of order) o (book_on (sections_of orders)) (every_there (λ (x : Order). x.book ≡ book_on (sections_of orders)) (sections_of orders) i within all.books) in
-        all.alone i within (ap (λ (g : Best). g.number) same-grant ∙ sym shown.granted ∙ same) ∙ ap (λ (g : Best). g.speed) same-grant ∙ sym shown.speed
+        all.alone i within (ap granted_number same-grant ∙ sym shown.granted ∙ same) ∙ ap granted_speed same-grant ∙ sym shown.speed
 
 -- ---- "Demand 3 stands unchanged, since the account knows no line"
 -- with one or two good working engines in front, portions cut anywhere between records and joined in any grouping give the route of the uncut train
@@ -332,19 +331,19 @@ module _ (orders : List ℕ) (cross : book_on (sections_of orders) ≡ CrossBord
   cross_refusals_kept room = ap (λ (good : List ℕ → Bool). refused_by good room) (ap (good_section (asked_in orders)) cross ∙ (λ i r. cross_section_kept (asked_in orders) r i))
 
   -- the category granted, and the sections' bytes, by the cross-border book's rules
-  pub cross_granted_kept : (f : Facts) → granted_for f orders ≡ (granted_on cross_border f (sections_of orders)).number
+  pub cross_granted_kept : (f : Facts) → granted_for f orders ≡ (granted_number (granted_on cross_border f (sections_of orders)))
   unfolding granted_for book_of
-  cross_granted_kept f = ap (λ (b : Book). (granted_on (book_of b) f (sections_of orders)).number) cross
+  cross_granted_kept f = ap (λ (b : Book). (granted_number (granted_on (book_of b) f (sections_of orders)))) cross
 
-  pub cross_speeds_kept : (f : Facts) → speeds_for f orders ≡ speeds_on cross_border (granted_on cross_border f (sections_of orders)).number f (sections_of orders)
+  pub cross_speeds_kept : (f : Facts) → speeds_for f orders ≡ speeds_on cross_border (granted_number (granted_on cross_border f (sections_of orders))) f (sections_of orders)
   unfolding speeds_for granted_for book_of
-  cross_speeds_kept f = ap (λ (b : Book). speeds_on (book_of b) (granted_on (book_of b) f (sections_of orders)).number f (sections_of orders)) cross
+  cross_speeds_kept f = ap (λ (b : Book). speeds_on (book_of b) (granted_number (granted_on (book_of b) f (sections_of orders))) f (sections_of orders)) cross
 
   -- so the whole call, of a train and of engines with an account
   pub cross_train_kept : (bs speeds : List ℕ)
-      → (train_route bs orders (length speeds) ≡ route_by (answered (train_around bs (refused_by cross_section (length speeds)))) (granted_on cross_border (facts_of (vehicles bs)) (sections_of orders)).number)
+      → (train_route bs orders (length speeds) ≡ route_by (answered (train_around bs (refused_by cross_section (length speeds)))) (granted_number (granted_on cross_border (facts_of (vehicles bs)) (sections_of orders))))
       × (train_speeds bs orders speeds
-      ≡ written (answered (train_around bs (refused_by cross_section (length speeds)))) (speeds_on cross_border (granted_on cross_border (facts_of (vehicles bs)) (sections_of orders)).number (facts_of (vehicles bs)) (sections_of orders)) speeds)
+      ≡ written (answered (train_around bs (refused_by cross_section (length speeds)))) (speeds_on cross_border (granted_number (granted_on cross_border (facts_of (vehicles bs)) (sections_of orders))) (facts_of (vehicles bs)) (sections_of orders)) speeds)
   unfolding train_refusals
   cross_train_kept bs speeds =
       let f = facts_of (vehicles bs) in
@@ -353,10 +352,10 @@ module _ (orders : List ℕ) (cross : book_on (sections_of orders) ≡ CrossBord
 
   pub cross_account_kept : (bs : List ℕ) (hauled : Account) (speeds : List ℕ)
       → (account_route bs hauled orders (length speeds)
-      ≡ route_by (answered (account_around bs hauled (refused_by cross_section (length speeds)))) (granted_on cross_border (facts_beside (vehicles bs) hauled) (sections_of orders)).number)
+      ≡ route_by (answered (account_around bs hauled (refused_by cross_section (length speeds)))) (granted_number (granted_on cross_border (facts_beside (vehicles bs) hauled) (sections_of orders))))
       × (account_speeds bs hauled orders speeds
       ≡ written (answered (account_around bs hauled (refused_by cross_section (length speeds))))
-      (speeds_on cross_border (granted_on cross_border (facts_beside (vehicles bs) hauled) (sections_of orders)).number (facts_beside (vehicles bs) hauled) (sections_of orders)) speeds)
+      (speeds_on cross_border (granted_number (granted_on cross_border (facts_beside (vehicles bs) hauled) (sections_of orders))) (facts_beside (vehicles bs) hauled) (sections_of orders)) speeds)
   unfolding account_refusals
   cross_account_kept bs hauled speeds =
       let f = facts_beside (vehicles bs) hauled in

@@ -17,7 +17,7 @@ use Rattle.order.specs.declared.Order.{Order}
 use Rattle.categories.specs.Categories.{category_of}
 use Rattle.categories.specs.declared.category.Category.{Category}
 use Rattle.rules.specs.Books.{RuleBook, Sound}
-use Rattle.rules.specs.Grants.{Among}
+use Rattle.rules.specs.Grants.{Among, granted_number, granted_speed}
 use Rattle.books.proofs.Demands.{book_sound}
 use Rattle.sections.specs.Routes.{book_on, slowest_of, granted_on, section_speed, MayBeGrantedOn, OfferedOn}
 use Rattle.sections.specs.Sections.{sections_of, asked_in, book_named_in, good_section}
@@ -61,10 +61,10 @@ module _ (f : Facts) (orders before : List ℕ) (good : all (good_section (asked
   zero_or (suc k) = inr (omega arith)
 
   -- where one may be granted, one is
-  some_granted : (c : Category) → Among c book.rows → MayBeGrantedOn book f (sections_of orders) c → 0 < (granted_on book f (sections_of orders)).number
-  some_granted c a m = go (zero_or (granted_on book f (sections_of orders)).number)
+  some_granted : (c : Category) → Among c book.rows → MayBeGrantedOn book f (sections_of orders) c → 0 < granted_number (granted_on book f (sections_of orders))
+  some_granted c a m = go (zero_or (granted_number (granted_on book f (sections_of orders))))
     where
-      go : ((granted_on book f (sections_of orders)).number ≡ 0) ⊎ (0 < (granted_on book f (sections_of orders)).number) → 0 < (granted_on book f (sections_of orders)).number
+      go : (granted_number (granted_on book f (sections_of orders)) ≡ 0) ⊎ (0 < granted_number (granted_on book f (sections_of orders))) → 0 < granted_number (granted_on book f (sections_of orders))
       go (inl z) =
           absurd
           ((sections.breaks_exactly book f c (sections_of orders)).1
@@ -72,15 +72,15 @@ module _ (f : Facts) (orders before : List ℕ) (good : all (good_section (asked
           ((sections.unbroken_exactly book f c (sections_of orders)).1 m.unbroken))
       go (inr p) = p
 
-  granted_offered : 0 < (granted_on book f (sections_of orders)).number
-      → OfferedOn book f (sections_of orders) (granted_on book f (sections_of orders)).number (slowest_of (category_of (granted_on book f (sections_of orders)).number book.rows) f (sections_of orders))
+  granted_offered : 0 < granted_number (granted_on book f (sections_of orders))
+      → OfferedOn book f (sections_of orders) (granted_number (granted_on book f (sections_of orders))) (slowest_of (category_of (granted_number (granted_on book f (sections_of orders))) book.rows) f (sections_of orders))
   granted_offered p =
-      subst (OfferedOn book f (sections_of orders) (granted_on book f (sections_of orders)).number)
+      subst (OfferedOn book f (sections_of orders) (granted_number (granted_on book f (sections_of orders))))
       (sections.granted_speed book f sound (sections_of orders) p)
       (sections.granted_stands book f sound (sections_of orders) p)
 
   its_speed : (c : Category) → Among c book.rows → MayBeGrantedOn book f (sections_of orders) c
-      → (granted_on book f (sections_of orders)).speed ≡ slowest_of (category_of (granted_on book f (sections_of orders)).number book.rows) f (sections_of orders)
+      → granted_speed (granted_on book f (sections_of orders)) ≡ slowest_of (category_of (granted_number (granted_on book f (sections_of orders))) book.rows) f (sections_of orders)
   its_speed c a m = sections.granted_speed book f sound (sections_of orders) (some_granted c a m)
 
   pub shows_over : Shows f (sections_of orders) n before after

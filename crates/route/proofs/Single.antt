@@ -17,8 +17,7 @@ use Rattle.record.specs.Records.{records, record_count, records_of}
 use Rattle.facts.specs.declared.Facts.{Facts}
 use Rattle.order.specs.Orders.{good_order, order_of, no_order}
 use Rattle.order.specs.declared.Order.{Order}
-use Rattle.rules.specs.Grants.{granted_of}
-use Rattle.rules.specs.declared.grant.Best.{Best}
+use Rattle.rules.specs.Grants.{granted_of, granted_number, granted_speed}
 use Rattle.books.specs.Books.{book_of}
 use Rattle.books.proofs.Demands.{book_sound}
 use Rattle.sections.specs.Routes.{granted_on, speeds_on}
@@ -43,15 +42,15 @@ module _ (order : List ℕ) (whole : length order ≡ 24) where
   one_order : sections_of order ≡ order_of order ∷ []
   one_order = ap (map order_of) one_record
 
-  pub single_granted : (f : Facts) → granted_for f order ≡ (granted_of (book_of (order_of order).book) f (order_of order)).number
+  pub single_granted : (f : Facts) → granted_for f order ≡ granted_number (granted_of (book_of (order_of order).book) f (order_of order))
   unfolding granted_for
   single_granted f =
-      ap (λ (os : List Order). (granted_on (book_for os) f os).number) one_order
-      ∙ ap (λ (g : Best). g.number) (one_section (book_of (order_of order).book) f (order_of order))
+      ap (λ (os : List Order). granted_number (granted_on (book_for os) f os)) one_order
+      ∙ ap granted_number (one_section (book_of (order_of order).book) f (order_of order))
 
-  pub single_speeds : (f : Facts) → speeds_for f order ≡ (granted_of (book_of (order_of order).book) f (order_of order)).speed ∷ []
+  pub single_speeds : (f : Facts) → speeds_for f order ≡ granted_speed (granted_of (book_of (order_of order).book) f (order_of order)) ∷ []
   unfolding speeds_for granted_for
-  single_speeds f = ap (λ (os : List Order). speeds_on (book_for os) (granted_on (book_for os) f os).number f os) one_order ∙ one_section_speed (book_of (order_of order).book) f (book_sound (order_of order).book) (order_of order)
+  single_speeds f = ap (λ (os : List Order). speeds_on (book_for os) (granted_number (granted_on (book_for os) f os)) f os) one_order ∙ one_section_speed (book_of (order_of order).book) f (book_sound (order_of order).book) (order_of order)
 
   abbrev same : List ℕ → Bool
   same = good_section (asked_in order) (book_named_in order)

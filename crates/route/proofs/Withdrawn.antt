@@ -10,7 +10,7 @@ use Rattle.order.specs.declared.Book.TheVariants.{CrossBorder}
 use Rattle.books.specs.Books.{book_of}
 use Rattle.rules.specs.CrossBorder.{cross_border}
 use Rattle.rules.specs.Withdrawn.{former_book, longer_than_all}
-use Rattle.rules.specs.declared.grant.Best.{Best}
+use Rattle.rules.specs.Grants.{granted_number}
 use Rattle.sections.specs.Routes.{book_on, granted_on, section_speed, speeds_on}
 use Rattle.sections.specs.Sections.{sections_of}
 use Rattle.sections.proofs.Demands as sections
@@ -23,8 +23,8 @@ module _ (f : Facts) (elsewhere : longer_than_all f ≡ false) (orders : List �
   granted_kept : formerly_granted f orders ≡ granted_for f orders
   unfolding granted_for book_of
   granted_kept =
-      ap (λ (g : Best). g.number) (sections.granted_kept f elsewhere (sections_of orders))
-      ∙ ap (λ (b : Book). (granted_on (book_of b) f (sections_of orders)).number) (sym cross)
+      ap granted_number (sections.granted_kept f elsewhere (sections_of orders))
+      ∙ ap (λ (b : Book). granted_number (granted_on (book_of b) f (sections_of orders))) (sym cross)
 
   speeds_kept : former_speeds f orders ≡ speeds_for f orders
   unfolding speeds_for section_speed former_book book_of

@@ -9,6 +9,7 @@ use Rattle.account.specs.declared.Account.{Account}
 use Rattle.facts.specs.Facts.{facts_of, facts_beside}
 use Rattle.facts.specs.declared.Facts.{Facts}
 use Rattle.rules.specs.Books.{RuleBook}
+use Rattle.rules.specs.Grants.{granted_number}
 use Rattle.order.specs.declared.Order.{Order}
 use Rattle.books.specs.Books.{book_of}
 use Rattle.sections.specs.Routes.{book_on, granted_on, speeds_on}
@@ -45,7 +46,7 @@ book_for os = book_of (book_on os)
 
 -- the category granted on all sections, or 0; and one byte a section, its speed in that category
 unfoldable pub granted_for : Facts → List ℕ → ℕ
-granted_for f orders = (granted_on (book_for (sections_of orders)) f (sections_of orders)).number
+granted_for f orders = granted_number (granted_on (book_for (sections_of orders)) f (sections_of orders))
 
 unfoldable pub speeds_for : Facts → List ℕ → List ℕ
 speeds_for f orders = speeds_on (book_for (sections_of orders)) (granted_for f orders) f (sections_of orders)

@@ -6,7 +6,7 @@ use Rattle.order.specs.Orders.{no_order}
 use Rattle.order.specs.declared.Order.{Order}
 use Rattle.categories.specs.Categories.{speed_of, category_of}
 use Rattle.categories.specs.declared.category.Category.{Category}
-use Rattle.rules.specs.Grants.{Among, granted_of}
+use Rattle.rules.specs.Grants.{Among, granted_of, granted_number, granted_speed}
 use Rattle.sections.specs.Routes.{asked_on, book_on, slowest_of, MayBeGrantedOn, BreaksOn, OfferedOn}
 use Rattle.route.specs.Answers.{book_for}
 
@@ -28,7 +28,7 @@ pub record Shows (f : Facts) (os : List Order) (granted : ℕ) (before speeds : 
   -- one byte a section: its speed in the category granted, 0 where none is, and its sheet's speed where the section alone grants the same
   pub bytes : (i : ℕ) → i < length os → get_or speeds i 0 ≡ speed_of (category_of granted (book_for os).rows) f (get_or os i no_order)
   pub zeros : granted ≡ 0 → (i : ℕ) → i < length os → get_or speeds i 0 ≡ 0
-  pub alone : (i : ℕ) → i < length os → (granted_of (book_for os) f (get_or os i no_order)).number ≡ granted → get_or speeds i 0 ≡ (granted_of (book_for os) f (get_or os i no_order)).speed
+  pub alone : (i : ℕ) → i < length os → granted_number (granted_of (book_for os) f (get_or os i no_order)) ≡ granted → get_or speeds i 0 ≡ granted_speed (granted_of (book_for os) f (get_or os i no_order))
   -- and no byte beyond the last section's, as many as were lent
   pub long : length speeds ≡ length before
   pub beyond : drop (length os) speeds ≡ drop (length os) before

@@ -39,9 +39,9 @@ fn put_route(f: Facts, orders: &[u8], speeds: &mut [u8]) -> u8
     ensures value { result ≡ granted_for f orders.now }
     ensures speeds_after { speeds.new ≡ laid_over (speeds_for f orders.now) speeds.old }
 {
-    let best = grant_on(f, orders);
-    put_speeds(best.number, f, orders, speeds);
-    best.number
+    let granted = grant_on(f, orders).map_or(0, |best| best.number);
+    put_speeds(granted, f, orders, speeds);
+    granted
 }
 
 // The category that a whole train is granted on its route, or 0: one order record a section, one byte lent for each.

@@ -3,8 +3,8 @@ use native.Mathlib.Omega.{arith}
 use mathlib.Core.Path.{◌≡◌, sym, ap, ap₂, ◌∙◌}
 use mathlib.Core.List.{List}
 use Prim.Native.Nat.{ℕ, ◌*◌}
-use lib.ListN.{take, drop}
-use Rattle.std.specs.Prelude.{Result, Ok, Err, is_ok, ⊤}
+use lib.ListN.{drop}
+use Rattle.std.specs.Prelude.{Ok, is_ok}
 use Rattle.std.specs.Result.{result_and}
 use Rattle.std.proofs.lemmas.Result.{err_from_is_err_and}
 use Rattle.lists.specs.Refusals.{answered}

@@ -1,6 +1,6 @@
 -- `judge::groups::field_refusal` meets its contract. Assumes nothing.
 use mathlib.Core.Path.{◌≡◌, sym, ap, ◌∙◌}
-use mathlib.Core.Bool.{Bool, true, false}
+use mathlib.Core.Bool.{true, false}
 use Rattle.lists.specs.Words.{all}
 use Rattle.record.specs.Records.{records_of}
 use Rattle.record.specs.Vehicles.{good}
