@@ -2,9 +2,7 @@
 #![tactic(auto)]
 
 ghost use Rattle.std.specs.Prelude.{◌≡◌};
-ghost use Rattle.rules.specs.CrossBorder.{cross_border};
 ghost use Rattle.rules.specs.Grants.{decision_of};
-ghost use Rattle.domestic.specs.Rules.{domestic};
 ghost use Rattle.books.specs.Books.{book_of};
 
 use domestic::grant::decide_domestic;
@@ -13,6 +11,8 @@ use order::{Book, Order};
 use rules::grant::{Decision, decide_cross_border};
 
 // What is decided by the book, whichever the order itself names: on a route that is the first section's.
+// A match here and below: a trait that two unit types stand for would still be chosen by one.
+#[tactic(auto, unfolding(crate::specs::Books::book_of))]
 pub fn decide(book: Book, f: Facts, o: Order) -> Decision
     ensures { result ≡ decision_of (book_of book) f o }
 {
@@ -22,26 +22,14 @@ pub fn decide(book: Book, f: Facts, o: Order) -> Decision
     }
 }
 
-// Byte 14: above 1,200 t.
-fn heavy(asked: u8, f: Facts) -> bool
-    ensures { result ≡ cross_border.mark asked f }
-{
-    (1 <= asked) & (asked <= 3) & (12000 < f.hauledMass)
-}
-
-// Byte 15: at any hauled mass (000, 1403.2).
-fn long(asked: u8, f: Facts) -> bool
-    ensures { result ≡ domestic.mark asked f }
-{
-    (1 <= asked) & (asked <= 3) & f.long
-}
-
-// Whether the mark byte of a sheet is 1: above 1,200 t, or braked as a long locomotive.
+// Whether the mark byte of a sheet is 1: in 1 to 3, above 1,200 t (byte 14), or braked as a long locomotive, at any hauled mass (byte 15; 000, 1403.2).
+#[tactic(auto, unfolding(crate::specs::Books::book_of, rules::specs::CrossBorder::cross_border, domestic::specs::Rules::domestic))]
 pub fn is_marked(book: Book, asked: u8, f: Facts) -> bool
     ensures { result ≡ (book_of book).mark asked f }
 {
+    let me = (1 <= asked) & (asked <= 3);
     match book {
-        Book::CrossBorder => heavy(asked, f),
-        Book::Domestic => long(asked, f),
+        Book::CrossBorder => me & (12000 < f.hauledMass),
+        Book::Domestic => me & f.long,
     }
 }

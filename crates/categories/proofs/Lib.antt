@@ -1,3 +1,4 @@
+pub mod Firsts
 pub mod Deductions
 pub mod Limits
 pub mod Demands

@@ -19,12 +19,12 @@ use Rattle.categories.proofs.category.Category.percentage_on.Reads as percentage
 use Rattle.categories.specs.contracts.category.category_of as category-of
 use Rattle.categories.proofs.category.category_of.Kinds as category-of-kinds
 use Rattle.categories.proofs.category.category_of.Reads as category-of-reads
-use Rattle.categories.specs.contracts.brake.deduction as deduction
-use Rattle.categories.proofs.brake.deduction.Kinds as deduction-kinds
-use Rattle.categories.proofs.brake.deduction.Reads as deduction-reads
-use Rattle.categories.specs.contracts.brake.parts as parts
-use Rattle.categories.proofs.brake.parts.Kinds as parts-kinds
-use Rattle.categories.proofs.brake.parts.Reads as parts-reads
+use Rattle.categories.specs.contracts.category.Weigh.brakes as brakes
+use Rattle.categories.proofs.category.Weigh.brakes.Kinds as brakes-kinds
+use Rattle.categories.proofs.category.Weigh.brakes.Reads as brakes-reads
+use Rattle.categories.specs.contracts.brake.Brakes.is_short as is-short
+use Rattle.categories.proofs.brake.Brakes.is_short.Kinds as is-short-kinds
+use Rattle.categories.proofs.brake.Brakes.is_short.Reads as is-short-reads
 use Rattle.categories.specs.contracts.brake.margin_for as margin-for
 use Rattle.categories.proofs.brake.margin_for.Kinds as margin-for-kinds
 use Rattle.categories.proofs.brake.margin_for.Reads as margin-for-reads
@@ -52,13 +52,13 @@ pub category_of_unique : (κs : Lfts 0) (a : ArgsD category-of.signature κs) {r
     → category-of-reads.Post κs a r s → category-of-reads.Post κs a r' s' → r ≡ r'
 category_of_unique κs a s s' p q = p ∙ sym q
 
-pub deduction_unique : (κs : Lfts 0) (a : ArgsD deduction.signature κs) {r r' : ResD deduction.signature κs} (s s' : AtExit (ended_of 0 deduction-kinds.ps deduction-kinds.r) κs)
-    → deduction-reads.Post κs a r s → deduction-reads.Post κs a r' s' → r ≡ r'
-deduction_unique κs a s s' p q = p ∙ sym q
+pub brakes_unique : (κs : Lfts 0) (a : ArgsD brakes.signature κs) {r r' : ResD brakes.signature κs} (s s' : AtExit (ended_of 0 brakes-kinds.ps brakes-kinds.r) κs)
+    → brakes-reads.Post κs a r s → brakes-reads.Post κs a r' s' → r ≡ r'
+brakes_unique κs a s s' p q = p ∙ sym q
 
-pub parts_unique : (κs : Lfts 0) (a : ArgsD parts.signature κs) {r r' : ResD parts.signature κs} (s s' : AtExit (ended_of 0 parts-kinds.ps parts-kinds.r) κs)
-    → parts-reads.Post κs a r s → parts-reads.Post κs a r' s' → r ≡ r'
-parts_unique κs a s s' p q = p ∙ sym q
+pub is_short_unique : (κs : Lfts 0) (a : ArgsD is-short.signature κs) {r r' : ResD is-short.signature κs} (s s' : AtExit (ended_of 0 is-short-kinds.ps is-short-kinds.r) κs)
+    → is-short-reads.Post κs a r s → is-short-reads.Post κs a r' s' → r ≡ r'
+is_short_unique κs a s s' p q = p ∙ sym q
 
 pub margin_for_unique : (κs : Lfts 0) (a : ArgsD margin-for.signature κs) {r r' : ResD margin-for.signature κs} (s s' : AtExit (ended_of 0 margin-for-kinds.ps margin-for-kinds.r) κs)
     → margin-for-reads.Post κs a r s → margin-for-reads.Post κs a r' s' → r ≡ r'

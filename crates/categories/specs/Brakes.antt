@@ -5,6 +5,7 @@ use Rattle.margin.specs.declared.Braked.{Braked}
 use Rattle.facts.specs.declared.Facts.{Facts}
 use Rattle.order.specs.declared.Order.{Order}
 use Rattle.categories.specs.Categories.{percentage_of}
+use Rattle.categories.specs.declared.brake.Brakes.{Brakes}
 use Rattle.categories.specs.declared.category.Category.{Category}
 use Rattle.categories.specs.declared.category.Weigh.{Weigh}
 use Rattle.categories.specs.declared.category.Weigh.TheVariants.{ThreeQuarters, Whole, Long}
@@ -30,9 +31,17 @@ deduction_by Long length = 0
 abbrev pub deduction_of : Weigh → Facts → ℕ
 deduction_of w f = deduction_by w f.hauledVLength
 
+-- what brakes in the categories that weigh alike
+abbrev pub brakes_of : Weigh → Facts → Brakes
+brakes_of w f = record { parts = parts_of w f; k = deduction_of w f }
+
+-- the margin by what brakes
+abbrev pub margin_with : Brakes → Category → Facts → Order → ℤ
+margin_with brakes c f o = margin_of (fourfold brakes.parts) brakes.k (percentage_of c f o) f.trainMass
+
 -- the margin where k percent are deducted
 abbrev pub margin_by : ℕ → Category → Facts → Order → ℤ
-margin_by k c f o = margin_of (fourfold (parts_of c.weigh f)) k (percentage_of c f o) f.trainMass
+margin_by k c f o = margin_with (record { parts = parts_of c.weigh f; k = k }) c f o
 
 -- the exact margin, in 4,000ths of a tonne
 unfoldable pub margin_for : Category → Facts → Order → ℤ

@@ -1,6 +1,6 @@
 -- Document 01, "The five categories", and request Six's six: the tables, what a row of one gives, the column's fallback to the right (000, article 1502), the percentage.
-use Rattle.std.specs.Prelude.{ℕ, suc, min, max, Bool, true, false, cond, List, [], ◌∷◌, drop}
-use Rattle.lists.specs.Words.{◌is◌, ◌at_most◌}
+use Rattle.std.specs.Prelude.{ℕ, suc, min, max, Bool, true, false, cond, List, [], ◌∷◌, map, drop, replicate}
+use Rattle.lists.specs.Words.{◌is◌, ◌at_most◌, first_of}
 use Rattle.facts.specs.declared.Facts.{Facts}
 use Rattle.order.specs.declared.Book.{Book}
 use Rattle.order.specs.declared.Book.TheVariants.{CrossBorder, Domestic}
@@ -13,7 +13,7 @@ use Rattle.categories.specs.declared.category.Weigh.TheVariants.{ThreeQuarters, 
 -- ---- cross-border
 -- the same percentage for every train length
 abbrev pub same : ℕ → Steps
-same p = record { end1 = 0; p1 = p; end2 = 0; p2 = p; end3 = 0; p3 = p; beyond = p }
+same p = record { up_to = replicate 3 (0, p); beyond = p }
 
 -- number, speed, percentage, column from ME120 as 0 (behind ME140, which no cross-border order has), whether it is one of "4 and 5", what M counts
 abbrev row : ℕ → ℕ → ℕ → ℕ → Bool → Weigh → Category
@@ -36,11 +36,11 @@ cross_rows =
 -- ---- domestic (request Six)
 -- ME by train length: at most 550 m, at most 650 m, at most 750 m, above (000, 3402)
 abbrev pub me_steps : ℕ → ℕ → ℕ → ℕ → Steps
-me_steps p q r s = record { end1 = 5500; p1 = p; end2 = 6500; p2 = q; end3 = 7500; p3 = r; beyond = s }
+me_steps p q r s = record { up_to = (5500, p) ∷ (6500, q) ∷ (7500, r) ∷ []; beyond = s }
 
 -- MA: at most 800 m, at most 900 m, above; the table ends at 1,000 m and is held (000, 4402.1)
 abbrev pub ma_steps : ℕ → ℕ → ℕ → Steps
-ma_steps p q r = record { end1 = 8000; p1 = p; end2 = 9000; p2 = q; end3 = 10000; p3 = r; beyond = r }
+ma_steps p q r = record { up_to = (8000, p) ∷ (9000, q) ∷ (10000, r) ∷ []; beyond = r }
 
 -- number, speed, percentages, column from ME140 as 0
 abbrev me_row : ℕ → ℕ → Steps → ℕ → Category
@@ -84,9 +84,9 @@ line_speed c o = first_present (drop c.column o.limits)
 unfoldable pub speed_of : Category → Facts → Order → ℕ
 speed_of c f o = min c.speed (min (line_speed c o) f.slowest)
 
--- a row's percentage by train length
+-- a row's percentage by train length: of the first end that it is at most
 abbrev pub stepped : Steps → ℕ → ℕ
-stepped p length = cond (length at_most p.end1) p.p1 (cond (length at_most p.end2) p.p2 (cond (length at_most p.end3) p.p3 p.beyond))
+stepped p length = first_of p.beyond (map (λ step. record { gives = step.1; applies = length at_most step.0 }) p.up_to)
 
 -- p is the greater of the table's and byte 6, which is 0 in a domestic order
 unfoldable pub percentage_of : Category → Facts → Order → ℕ

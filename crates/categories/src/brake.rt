@@ -1,6 +1,7 @@
 // Braked mass and margin of a category.
-ghost use Rattle.std.specs.Prelude.{◌≡◌, min};
-ghost use Rattle.categories.specs.Brakes.{begun_of, parts_of, deduction_of, margin_for, braked_of};
+ghost use Rattle.std.specs.Prelude.{◌≡◌, pos};
+ghost use Rattle.std.specs.Int.Signed.{lt_z};
+ghost use Rattle.categories.specs.Brakes.{begun_of, parts_of, deduction_of, brakes_of, margin_with, margin_for, braked_of};
 
 use crate::category::{Category, Weigh};
 use facts::Facts;
@@ -11,70 +12,87 @@ use order::Order;
 fn begun(length: u32) -> u32
     ensures { result ≡ begun_of length }
 {
-    if length <= 5000 {
-        return 0;
+    (length.saturating_sub(5000) + 199) / 200
+}
+
+// What brakes in the categories that weigh alike: the parts of Q, and k.
+#[derive(Clone, Copy)]
+pub struct Brakes {
+    pub parts: Braked,
+    pub k: u8,
+}
+
+impl Weigh {
+    fn parts(self, f: Facts) -> Braked
+        ensures { result ≡ parts_of self f }
+    {
+        match self {
+            Weigh::ThreeQuarters => Braked {
+                set: f.vmass,
+                whole: 0,
+                reduced: f.mmass,
+            },
+            Weigh::Whole => Braked {
+                set: f.vmass,
+                whole: f.mmass,
+                reduced: 0,
+            },
+            Weigh::Long => Braked {
+                set: f.vmass,
+                whole: f.enginesMMass,
+                reduced: f.wagonsVMass,
+            },
+        }
     }
-    (length - 5000 - 1) / 200 + 1
-}
 
-// At most 10.
-fn held(begun: u32) -> u8
-    ensures { result ≡ min 10 begun }
-{
-    if 10 < begun { 10 } else { begun as u8 }
-}
+    // k, of the hauled vehicles braked in V, at most 10 (note 7).
+    fn deduction(self, f: Facts) -> u8
+        ensures { result ≡ deduction_of self f }
+    {
+        match self {
+            Weigh::ThreeQuarters => begun(f.hauledVLength).min(10) as u8,
+            Weigh::Whole | Weigh::Long => 0,
+        }
+    }
 
-// k, of the hauled vehicles braked in V (note 7).
-pub fn deduction(w: Weigh, f: Facts) -> u8
-    ensures { result ≡ deduction_of w f }
-{
-    match w {
-        Weigh::ThreeQuarters => held(begun(f.hauledVLength)),
-        Weigh::Whole => 0,
-        Weigh::Long => 0,
+    pub fn brakes(self, f: Facts) -> Brakes
+        ensures { result ≡ brakes_of self f }
+    {
+        Brakes {
+            parts: self.parts(f),
+            k: self.deduction(f),
+        }
     }
 }
 
-// The parts of Q.
-pub fn parts(w: Weigh, f: Facts) -> Braked
-    ensures { result ≡ parts_of w f }
-{
-    match w {
-        Weigh::ThreeQuarters => Braked {
-            set: f.vmass,
-            whole: 0,
-            reduced: f.mmass,
-        },
-        Weigh::Whole => Braked {
-            set: f.vmass,
-            whole: f.mmass,
-            reduced: 0,
-        },
-        Weigh::Long => Braked {
-            set: f.vmass,
-            whole: f.enginesMMass,
-            reduced: f.wagonsVMass,
-        },
+impl Brakes {
+    fn margin(self, c: Category, f: Facts, o: Order) -> i64
+        ensures { result ≡ margin_with self c f o }
+    {
+        margin::margin(self.parts, self.k, c.percentage_on(f, o), f.trainMass)
+    }
+
+    // Rules 47, 77 and 88, of a category that these are the brakes of.
+    pub fn is_short(self, c: Category, f: Facts, o: Order) -> bool
+        ensures { result ≡ lt_z (margin_with self c f o) (pos 0) }
+    {
+        self.margin(c, f, o) < 0
     }
 }
 
 // The exact margin, in 4,000ths of a tonne.
+#[tactic(auto, unfolding(crate::specs::Brakes::margin_for))]
 pub fn margin_for(c: Category, f: Facts, o: Order) -> i64
     ensures { result ≡ margin_for c f o }
 {
-    let w = c.weigh;
-    margin::margin(
-        parts(w, f),
-        deduction(w, f),
-        c.percentage_on(f, o),
-        f.trainMass,
-    )
+    c.weigh.brakes(f).margin(c, f, o)
 }
 
 // Braked mass after deduction, in tenths rounded down.
+#[tactic(auto, unfolding(crate::specs::Brakes::braked_of))]
 pub fn braked_of(c: Category, f: Facts) -> u64
     ensures { result ≡ braked_of c f }
 {
-    let w = c.weigh;
-    margin::left(parts(w, f), deduction(w, f))
+    let brakes = c.weigh.brakes(f);
+    margin::left(brakes.parts, brakes.k)
 }

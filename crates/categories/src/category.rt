@@ -1,9 +1,8 @@
 // The categories of both books: their tables, and what a row gives on a line.
-ghost use Rattle.std.specs.Prelude.{◌≡◌, max, min, drop};
-ghost use Rattle.categories.specs.Categories.{cross_rows, domestic_rows, rows_of, first_present, line_speed, speed_of, stepped, percentage_of, category_of};
+ghost use Rattle.std.specs.Prelude.{◌≡◌, min};
+ghost use Rattle.categories.specs.Categories.{rows_of, line_speed, speed_of, stepped, percentage_of, category_of};
 
 use facts::Facts;
-use lists::number::lesser;
 use order::{Book, Order};
 
 // What a record set to M counts: three quarters of its M mass (note 8), the whole, or as a long locomotive (000, 1403.2).
@@ -14,16 +13,22 @@ pub enum Weigh {
     Long,
 }
 
-// The percentage by train length: up to three ends, and beyond.
+// The percentage by train length: at most each of three ends, and beyond.
 #[derive(Clone, Copy)]
 pub struct Steps {
-    pub end1: u32,
-    pub p1: u8,
-    pub end2: u32,
-    pub p2: u8,
-    pub end3: u32,
-    pub p3: u8,
+    pub up_to: [(u32, u8); 3],
     pub beyond: u8,
+}
+
+impl Steps {
+    fn at(self, length: u32) -> u8
+        ensures { result ≡ stepped self length }
+    {
+        self.up_to
+            .iter()
+            .find(|(end, _)| length <= *end)
+            .map_or(self.beyond, |(_, percentage)| *percentage)
+    }
 }
 
 #[derive(Clone, Copy)]
@@ -43,12 +48,7 @@ impl Category {
         number: 1,
         speed: 120,
         percentage: Steps {
-            end1: 0,
-            p1: 77,
-            end2: 0,
-            p2: 77,
-            end3: 0,
-            p3: 77,
+            up_to: [(0, 77); 3],
             beyond: 77,
         },
         column: 1,
@@ -60,12 +60,7 @@ impl Category {
         number: 2,
         speed: 100,
         percentage: Steps {
-            end1: 0,
-            p1: 60,
-            end2: 0,
-            p2: 60,
-            end3: 0,
-            p3: 60,
+            up_to: [(0, 60); 3],
             beyond: 60,
         },
         column: 2,
@@ -77,12 +72,7 @@ impl Category {
         number: 3,
         speed: 100,
         percentage: Steps {
-            end1: 0,
-            p1: 60,
-            end2: 0,
-            p2: 60,
-            end3: 0,
-            p3: 60,
+            up_to: [(0, 60); 3],
             beyond: 60,
         },
         column: 3,
@@ -94,12 +84,7 @@ impl Category {
         number: 4,
         speed: 100,
         percentage: Steps {
-            end1: 0,
-            p1: 57,
-            end2: 0,
-            p2: 57,
-            end3: 0,
-            p3: 57,
+            up_to: [(0, 57); 3],
             beyond: 57,
         },
         column: 3,
@@ -111,12 +96,7 @@ impl Category {
         number: 5,
         speed: 90,
         percentage: Steps {
-            end1: 0,
-            p1: 50,
-            end2: 0,
-            p2: 50,
-            end3: 0,
-            p3: 50,
+            up_to: [(0, 50); 3],
             beyond: 50,
         },
         column: 4,
@@ -129,12 +109,7 @@ impl Category {
         number: 1,
         speed: 140,
         percentage: Steps {
-            end1: 5500,
-            p1: 97,
-            end2: 6500,
-            p2: 102,
-            end3: 7500,
-            p3: 108,
+            up_to: [(5500, 97), (6500, 102), (7500, 108)],
             beyond: 108,
         },
         column: 0,
@@ -146,12 +121,7 @@ impl Category {
         number: 2,
         speed: 120,
         percentage: Steps {
-            end1: 5500,
-            p1: 77,
-            end2: 6500,
-            p2: 81,
-            end3: 7500,
-            p3: 86,
+            up_to: [(5500, 77), (6500, 81), (7500, 86)],
             beyond: 94,
         },
         column: 1,
@@ -163,12 +133,7 @@ impl Category {
         number: 3,
         speed: 100,
         percentage: Steps {
-            end1: 5500,
-            p1: 60,
-            end2: 6500,
-            p2: 63,
-            end3: 7500,
-            p3: 66,
+            up_to: [(5500, 60), (6500, 63), (7500, 66)],
             beyond: 73,
         },
         column: 2,
@@ -180,12 +145,7 @@ impl Category {
         number: 4,
         speed: 100,
         percentage: Steps {
-            end1: 8000,
-            p1: 57,
-            end2: 9000,
-            p2: 64,
-            end3: 10000,
-            p3: 69,
+            up_to: [(8000, 57), (9000, 64), (10000, 69)],
             beyond: 69,
         },
         column: 3,
@@ -197,12 +157,7 @@ impl Category {
         number: 5,
         speed: 90,
         percentage: Steps {
-            end1: 8000,
-            p1: 50,
-            end2: 9000,
-            p2: 57,
-            end3: 10000,
-            p3: 61,
+            up_to: [(8000, 50), (9000, 57), (10000, 61)],
             beyond: 61,
         },
         column: 4,
@@ -214,12 +169,7 @@ impl Category {
         number: 6,
         speed: 80,
         percentage: Steps {
-            end1: 8000,
-            p1: 47,
-            end2: 9000,
-            p2: 55,
-            end3: 10000,
-            p3: 59,
+            up_to: [(8000, 47), (9000, 55), (10000, 59)],
             beyond: 59,
         },
         column: 5,
@@ -227,17 +177,12 @@ impl Category {
         weigh: Weigh::Whole,
     };
 
-    // For a number that no category has.
+    // For a number that no category has. No Option: a sheet on an order that asks for none shows this one's percentage, and `none` defines it.
     const NONE: Category = Category {
         number: 0,
         speed: 0,
         percentage: Steps {
-            end1: 0,
-            p1: 0,
-            end2: 0,
-            p2: 0,
-            end3: 0,
-            p3: 0,
+            up_to: [(0, 0); 3],
             beyond: 0,
         },
         column: 1,
@@ -249,96 +194,35 @@ impl Category {
     pub fn line_speed(self, o: Order) -> u8
         ensures { result ≡ line_speed self o }
     {
-        let limits = o.limits;
-        first_present(&limits, self.column)
+        o.limits
+            .iter()
+            .copied()
+            .skip(self.column)
+            .find(|limit| *limit != 0)
+            .unwrap_or(0)
     }
 
     // The least of its own, the line's and the slowest record's.
     pub fn speed_on(self, line: u8, slowest: u8) -> u8
         ensures { result ≡ min self.speed (min line slowest) }
     {
-        let others = lesser(line as u32, slowest as u32);
-        lesser(self.speed as u32, others) as u8
+        self.speed.min(line.min(slowest))
     }
 
-    // Its speed on the line of an order.
+    // Its speed on the line of an order. Facts and order are two parameters here and above, since `speed_of`, `percentage_of` and the other definitions take them so.
+    #[tactic(auto, unfolding(crate::specs::Categories::speed_of))]
     pub fn speed_for(self, f: Facts, o: Order) -> u8
         ensures { result ≡ speed_of self f o }
     {
-        let line = self.line_speed(o);
-        self.speed_on(line, f.slowest)
+        self.speed_on(self.line_speed(o), f.slowest)
     }
 
     // p: the greater of the table's for the train's length and the German timetable's.
+    #[tactic(auto, unfolding(crate::specs::Categories::percentage_of))]
     pub fn percentage_on(self, f: Facts, o: Order) -> u8
         ensures { result ≡ percentage_of self f o }
     {
-        let steps = self.percentage;
-        greater(step_at(steps, f.trainLength), o.german)
-    }
-}
-
-fn greater(x: u8, y: u8) -> u8
-    ensures { result ≡ max x y }
-{
-    if x < y { y } else { x }
-}
-
-// The percentage at a train length.
-fn step_at(steps: Steps, length: u32) -> u8
-    ensures { result ≡ stepped steps length }
-{
-    if length <= steps.end1 {
-        return steps.p1;
-    }
-    if length <= steps.end2 {
-        return steps.p2;
-    }
-    if length <= steps.end3 {
-        steps.p3
-    } else {
-        steps.beyond
-    }
-}
-
-// The first limit from a column on that is not missing, or 0.
-fn first_present(limits: &[u8], column: usize) -> u8
-    ensures { result ≡ first_present (drop column limits.now) }
-{
-    let mut i = column;
-    while i < limits.len() {
-        if limits[i] != 0 {
-            return limits[i];
-        }
-        i += 1;
-    }
-    0
-}
-
-fn cross_border_of(number: u8) -> Category
-    ensures { result ≡ category_of number cross_rows }
-{
-    match number {
-        1 => Category::ME120_P120,
-        2 => Category::ME100_P100,
-        3 => Category::MA100_P100,
-        4 => Category::MA100_G100,
-        5 => Category::MA90_G90,
-        _ => Category::NONE,
-    }
-}
-
-fn domestic_of(number: u8) -> Category
-    ensures { result ≡ category_of number domestic_rows }
-{
-    match number {
-        1 => Category::ME140,
-        2 => Category::ME120,
-        3 => Category::ME100,
-        4 => Category::MA100,
-        5 => Category::MA90,
-        6 => Category::MA80,
-        _ => Category::NONE,
+        self.percentage.at(f.trainLength).max(o.german)
     }
 }
 
@@ -346,8 +230,18 @@ fn domestic_of(number: u8) -> Category
 pub fn category_of(book: Book, number: u8) -> Category
     ensures { result ≡ category_of number (rows_of book) }
 {
-    match book {
-        Book::CrossBorder => cross_border_of(number),
-        Book::Domestic => domestic_of(number),
+    match (book, number) {
+        (Book::CrossBorder, 1) => Category::ME120_P120,
+        (Book::CrossBorder, 2) => Category::ME100_P100,
+        (Book::CrossBorder, 3) => Category::MA100_P100,
+        (Book::CrossBorder, 4) => Category::MA100_G100,
+        (Book::CrossBorder, 5) => Category::MA90_G90,
+        (Book::Domestic, 1) => Category::ME140,
+        (Book::Domestic, 2) => Category::ME120,
+        (Book::Domestic, 3) => Category::ME100,
+        (Book::Domestic, 4) => Category::MA100,
+        (Book::Domestic, 5) => Category::MA90,
+        (Book::Domestic, 6) => Category::MA80,
+        _ => Category::NONE,
     }
 }

@@ -13,7 +13,8 @@ use Rattle.categories.specs.Brakes.{margin_for}
 use Rattle.categories.specs.declared.category.Category.{Category}
 use Rattle.rules.specs.Rules.{rule, numbers_of}
 use Rattle.rules.specs.Books.{rules_of, Sound}
-use Rattle.rules.specs.Grants.{best_of, offer_of, granted_of, decision_of}
+use Rattle.rules.specs.Grants.{best_of, granted_of, decision_of}
+use Rattle.rules.proofs.Offers.{granted_decided}
 use Rattle.domestic.specs.Rules.{terms_of, domestic}
 
 -- its rows are the table's six categories
@@ -46,5 +47,5 @@ rule_88 c f o = refl
 
 -- what is granted is the best of what is decided to be offered
 pub granted_of_decided : (f : Facts) (o : Order) → best_of o.asked (decision_of domestic f o).offers ≡ granted_of domestic f o
-unfolding decision_of granted_of offer_of domestic
-granted_of_decided f o = refl
+unfolding domestic
+granted_of_decided f o = granted_decided domestic f o (omega arith)

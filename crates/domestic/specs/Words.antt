@@ -1,23 +1,16 @@
 -- All broken rules at once: a word with one bit a rule, the lowest for the rule asked first; and what is judged once for ME, and once for MA.
-use Rattle.std.specs.Prelude.{ℕ, ◌+◌, ◌*◌, Bool, false, ◌&&◌, cond, List, [], ◌∷◌, take, drop}
+use Rattle.std.specs.Prelude.{ℕ, ◌+◌, ◌*◌, Bool, false, ◌&&◌, cond, List, [], ◌∷◌}
 use Rattle.lists.specs.Words.{◌is◌, ◌above◌}
 use Rattle.facts.specs.declared.Facts.{Facts}
 use Rattle.order.specs.declared.Order.{Order}
-use Rattle.categories.specs.Brakes.{parts_of, deduction_of}
-use Rattle.categories.specs.declared.category.Weigh.{Weigh}
 use Rattle.rules.specs.Rules.{marks_of}
 use Rattle.domestic.specs.Rules.{domestic_rules}
-use Rattle.domestic.specs.declared.rule.Family.{Family}
 use Rattle.domestic.specs.declared.rule.Terms.{Terms}
 
 -- marks as a number: mark i is bit i
 abbrev pub word_of : List Bool → ℕ
 word_of [] = 0
 word_of (b ∷ bs) = cond b 1 0 + 2 * word_of bs
-
--- the number of the eight marks from a place on
-abbrev pub octet_at : ℕ → List Bool → ℕ
-octet_at i bs = word_of (take 8 (drop i bs))
 
 -- the terms of ME, or of MA, at which no rule is broken that reads a category's own speed, line or margin
 unfoldable pub still_of : Bool → Facts → Order → Terms
@@ -35,10 +28,6 @@ still_of isma f o =
 -- all that the categories of ME, or of MA, break alike
 unfoldable pub base_of : Bool → Facts → Order → ℕ
 base_of isma f o = word_of (marks_of (domestic_rules (still_of isma f o) f))
-
--- what a category has alike with the others of ME, or of MA: that word, the parts of Q, k
-unfoldable pub family_of : Bool → Weigh → Facts → Order → Family
-family_of isma w f o = record { base = base_of isma f o; parts = parts_of w f; k = deduction_of w f }
 
 -- the rules of ME that read a category's own speed, line or margin, each at its bit: 61, 62, 64, 66, 67, 73, 77
 abbrev pub own_me : ℕ → ℕ → ℕ → Bool → Facts → ℕ

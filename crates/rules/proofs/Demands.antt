@@ -1,10 +1,10 @@
 -- Demand 2, as far as rules and granting go: the theorems, over the definitions of specs/, of any sound rule book. Assumes nothing.
 use Prim.Native.Nat.{ℕ, ◌≤◌, ◌<◌}
 use native.Mathlib.Omega.{arith}
-use mathlib.Core.Path.{◌≡◌, refl, ap}
+use mathlib.Core.Path.{◌≡◌, refl}
 use mathlib.Core.Bool.{true, false, not, ◌&&◌, cond}
 use Rattle.std.specs.Prelude.{Option}
-use mathlib.Core.List.{List, [], ◌∷◌, ◌++◌, map, foldr}
+use mathlib.Core.List.{List, [], ◌∷◌, ◌++◌, map}
 use mathlib.Core.Logic.{◌⊎◌}
 use lib.IntN.{pos}
 use lib.ListN.{replicate}
@@ -25,7 +25,7 @@ use Rattle.rules.specs.Rules.{Rule, rule, first_broken, numbers_of, is_short, te
 use Rattle.rules.specs.Books.{RuleBook, rules_of, broken_by, Rise, Sound}
 use Rattle.rules.specs.CrossBorder.{own_rules, cross_border}
 use Rattle.rules.specs.Withdrawn.{stood, former_book, longer_than_all, NotReached, formerly}
-use Rattle.rules.specs.Grants.{offer, stands, offer_of, better_of, best_of, absent_rule, granted_of, granted_number, granted_speed, decision_of, MayBeGranted, Among, Offered, Stands, Granted, KeepsNumber, Standing}
+use Rattle.rules.specs.Grants.{offer, stands, better_of, best_of, absent_rule, granted_of, granted_number, granted_speed, decision_of, MayBeGranted, Among, Offered, Stands, Granted, KeepsNumber, Standing}
 use Rattle.rules.specs.declared.grant.Offer.{Offer}
 use Rattle.rules.specs.declared.grant.Best.{Best}
 use Rattle.rules.proofs.Grants as grants
@@ -199,9 +199,5 @@ module _ (b : RuleBook) (f : Facts) (o : Order) where
 
 -- what is granted is the best of what is decided to be offered
 pub granted_of_decided : (f : Facts) (o : Order) → best_of o.asked (decision_of cross_border f o).offers ≡ granted_of cross_border f o
-unfolding decision_of granted_of offer_of cross_border
-granted_of_decided f o = ap (front f o) (absent_passed o.asked 0 0 (best_of o.asked []))
-  where
-    -- the five, in front of what is best behind them
-    front : Facts → Order → Option Best → Option Best
-    front f o last = foldr (λ c rest. better_of o.asked (offer_of cross_border f o c) rest) last cross_border.rows
+unfolding cross_border
+granted_of_decided f o = offers.granted_decided cross_border f o (omega arith)

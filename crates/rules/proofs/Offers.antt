@@ -1,9 +1,12 @@
 -- Categories as they are offered, whatever they are offered for, and what is granted of them: for every rows whose numbers rise. Assumes nothing.
-use Prim.Native.Nat.{ℕ, ◌≤◌, ◌<◌}
+use Prim.Native.Nat.{ℕ, zero, suc, ◌≤◌, ◌<◌}
+use native.Mathlib.Omega.{arith}
 use mathlib.Core.Path.{◌≡◌, refl, sym, ap, ap₂, ◌∙◌, subst}
 use mathlib.Core.Bool.{Bool, true, false, ◌&&◌, cond}
-use Rattle.std.specs.Prelude.{Option, Some}
-use mathlib.Core.List.{List, [], ◌∷◌, map}
+use Rattle.std.specs.Prelude.{Option, None, Some}
+use Rattle.std.proofs.lemmas.List.{length-map}
+use lib.ListN.{length, take, replicate}
+use mathlib.Core.List.{List, [], ◌∷◌, ◌++◌, map}
 use mathlib.Core.Logic.{inl, inr}
 use borrow.Author.Tests.{le-leb, leb-true, eq-eqb, eqb-true}
 use lib.Dec.{leb, eqb}
@@ -13,7 +16,7 @@ use Rattle.order.specs.declared.Order.{Order}
 use Rattle.categories.specs.Categories.{speed_of}
 use Rattle.categories.specs.declared.category.Category.{Category}
 use Rattle.rules.specs.Books.{RuleBook, Rise}
-use Rattle.rules.specs.Grants.{offer, stands, none_faster, better_of, best_of, absent_rule, offer_of, offers_of, granted_of, MayBeGranted, Among, Offered, Stands, Rising, Granted, KeepsNumber, Standing}
+use Rattle.rules.specs.Grants.{offer, stands, none_faster, better_of, best_of, absent, absent_rule, six_of, decided_by, decision_of, offer_of, offers_of, granted_of, MayBeGranted, Among, Offered, Stands, Rising, Granted, KeepsNumber, Standing}
 use Rattle.rules.specs.declared.grant.Offer.{Offer}
 use Rattle.rules.specs.declared.grant.Best.{Best}
 use Rattle.rules.proofs.Grants.{best_granted}
@@ -34,6 +37,17 @@ absent_passed asked n speed rest = go (leb asked n)
     go : (b : Bool) → cond ((b && false) && none_faster speed rest) (Some (record { number = n; speed = speed })) rest ≡ rest
     go true = refl
     go false = refl
+
+-- so places behind a book's last category change nothing
+absent_places : (asked n m : ℕ) → best_of asked (take n (replicate m absent)) ≡ None
+absent_places asked zero m = refl
+absent_places asked (suc n) zero = refl
+absent_places asked (suc n) (suc m) = absent_passed asked 0 0 (best_of asked (take n (replicate m absent))) ∙ absent_places asked n m
+
+absent_behind : (asked n m : ℕ) (os : List Offer) → length os ≤ n → best_of asked (take n (os ++ replicate m absent)) ≡ best_of asked os
+absent_behind asked n m [] h = absent_places asked n m
+absent_behind asked zero m (x ∷ os) h = absurd (omega arith)
+absent_behind asked (suc n) m (x ∷ os) h = ap (better_of asked x) (absent_behind asked n m os (omega arith))
 
 -- ---- of any rows, offered in any way that keeps their numbers
 module _ (asked : ℕ) (offered : Category → Offer) (keeps : KeepsNumber offered) where
@@ -77,3 +91,12 @@ module _ (b : RuleBook) (f : Facts) (o : Order) where
   pub is_granted : Rise 0 b.rows → Granted o.asked (offers_of b f o) (granted_of b f o)
   unfolding granted_of
   is_granted r = rows_granted o.asked (offer_of b f o) offer_keeps b.rows r
+
+  -- what is granted is the best of what is decided to be offered, of a book with at most six categories
+  pub granted_decided : length b.rows ≤ 6 → best_of o.asked (decision_of b f o).offers ≡ granted_of b f o
+  unfolding decision_of granted_of
+  granted_decided h = absent_behind o.asked 6 6 (offers_of b f o) (simp length-map h)
+
+  pub decided_whole : length b.rows ≤ 6 → decided_by o.asked (decision_of b f o).offers ≡ decision_of b f o
+  unfolding decision_of
+  decided_whole h = λ i. record { offers = six_of (offers_of b f o); granted = granted_decided h i }

@@ -1,128 +1,83 @@
--- Laws of the first rule broken, over any list of rules, and of the marks that a category adds to its family's. Assumes nothing.
-use Prim.Native.Nat.{ℕ, zero, suc, ◌≤◌, ◌<◌, min}
+-- Laws of the first rule broken, over any list of rules, and of what a category breaks beside its family. Assumes nothing.
+use Prim.Native.Nat.{ℕ, ◌≤◌, ◌<◌}
 use native.Mathlib.Omega.{arith}
-use mathlib.Core.Path.{◌≡◌, refl, sym, ap, ap₂, ◌∙◌}
-use mathlib.Core.Bool.{Bool, true, false, not, ◌&&◌, ◌||◌, cond}
+use mathlib.Core.Path.{◌≡◌, refl, sym, ap, ◌∙◌}
+use mathlib.Core.Bool.{Bool, true, false, cond}
 use mathlib.Core.List.{List, [], ◌∷◌, ◌++◌}
 use mathlib.Core.Logic.{◌⊎◌, inl, inr}
-use borrow.Author.Tests.{le-leb, lt-leb, lt-ltb, le-ltb, ltb-true, ltb-false, eqb-true, eqb-false}
-use lib.Dec.{ltb}
-use lib.ListN.{length, get_or}
-use Rattle.lists.specs.Words.{◌is◌, ◌at_most◌, leading, Every}
+use borrow.Author.Tests.{le-leb, lt-leb, eqb-true, eqb-false}
+use Rattle.std.specs.Prelude.{None, Some}
+use Rattle.std.specs.Bool.{then_some}
+use Rattle.std.specs.List.{find}
+use Rattle.std.specs.Option.{unwrap_or, option_map, option_or}
+use Rattle.lists.specs.Words.{◌is◌, ◌at_most◌, Every}
 use Rattle.facts.specs.declared.Facts.{Facts}
 use Rattle.order.specs.declared.Order.{Order}
 use Rattle.categories.specs.Categories.{line_speed}
 use Rattle.categories.specs.declared.category.Category.{Category}
-use Rattle.categories.specs.declared.category.Weigh.{Weigh}
-use Rattle.rules.specs.Rules.{Rule, first_broken, numbers_of, marks_of, is_short, terms_of}
+use Rattle.rules.specs.Rules.{Rule, first_broken, is_short, terms_of}
 use Rattle.rules.specs.Books.{broken_by}
-use Rattle.rules.specs.Families.{still_of, first_place, family_of, family_first}
-use Rattle.rules.specs.CrossBorder.{cross_rules, cross_border}
-use Rattle.rules.specs.declared.rule.Family.{Family}
+use Rattle.rules.specs.Families.{rules_listed, first_rule, still_of}
+use Rattle.rules.specs.CrossBorder.{common_rules, family_rules, cross_rules, cross_border}
 
--- the first rule broken is the number at the place of the first mark
-pub number_there : (rules : List Rule) → get_or (numbers_of rules) (first_place rules) 0 ≡ first_broken rules
-unfolding first_place
-number_there [] = refl
-number_there (r ∷ rules) = go r.applies (number_there rules)
+-- ---- the first rule broken, if there is one
+-- as it is looked up in a list of numbers with their marks
+pub rule_found : (rules : List (ℕ × Bool)) → option_map (λ r. r.0) (find (λ r. r.1) rules) ≡ first_rule (rules_listed rules)
+rule_found [] = refl
+rule_found (r ∷ rules) = go r.1 (rule_found rules)
   where
-    go : (b : Bool) → get_or (numbers_of rules) (first_place rules) 0 ≡ first_broken rules
-        → get_or (r.gives ∷ numbers_of rules) (cond (not b) (suc (first_place rules)) 0) 0 ≡ cond b r.gives (first_broken rules)
+    go : (b : Bool) → option_map (λ r. r.0) (find (λ r. r.1) rules) ≡ first_rule (rules_listed rules)
+        → option_map (λ r. r.0) (cond b (Some r) (find (λ r. r.1) rules)) ≡ cond b (Some r.0) (first_rule (rules_listed rules))
     go true rest = refl
     go false rest = rest
 
--- ---- one mark more
--- a mark set at a place, where it holds
-abbrev marked : ℕ → Bool → List Bool → List Bool
-marked i b [] = []
-marked zero b (x ∷ xs) = (x || b) ∷ xs
-marked (suc i) b (x ∷ xs) = x ∷ marked i b xs
-
--- the first is then the lesser of that place and the first before
-first_marked_lem : (i : ℕ) (b : Bool) (xs : List Bool) → i < length xs → leading not (marked i b xs) ≡ cond b (min i (leading not xs)) (leading not xs)
-first_marked_lem i b [] h = absurd (omega arith)
-first_marked_lem zero b (x ∷ xs) h = go x b
+-- its number, or 0
+number_of_first : (rules : List Rule) → unwrap_or (first_rule rules) 0 ≡ first_broken rules
+number_of_first [] = refl
+number_of_first (r ∷ rules) = go r.applies (number_of_first rules)
   where
-    go : (x b : Bool) → leading not ((x || b) ∷ xs) ≡ cond b (min 0 (leading not (x ∷ xs))) (leading not (x ∷ xs))
-    go true true = refl
-    go true false = refl
-    go false true = omega arith
-    go false false = refl
-first_marked_lem (suc i) b (x ∷ xs) h = go x b (first_marked_lem i b xs (omega arith))
+    go : (b : Bool) → unwrap_or (first_rule rules) 0 ≡ first_broken rules → unwrap_or (cond b (Some r.gives) (first_rule rules)) 0 ≡ cond b r.gives (first_broken rules)
+    go true rest = refl
+    go false rest = rest
+
+-- of two lists, one with another, and each with a rule behind it
+first_of_parts : (xs ys : List Rule) (r s : Rule)
+    → option_or (option_or (option_or (first_rule xs) (then_some r.applies r.gives)) (first_rule ys)) (then_some s.applies s.gives) ≡ first_rule (xs ++ r ∷ (ys ++ s ∷ []))
+first_of_parts [] ys r s = go r.applies
   where
-    go : (x b : Bool) → leading not (marked i b xs) ≡ cond b (min i (leading not xs)) (leading not xs)
-        → leading not (x ∷ marked i b xs) ≡ cond b (min (suc i) (leading not (x ∷ xs))) (leading not (x ∷ xs))
-    go true true e = omega arith
-    go true false e = refl
-    go false true e = omega arith
-    go false false e = ap suc e
+    behind : (ys : List Rule) → option_or (first_rule ys) (then_some s.applies s.gives) ≡ first_rule (ys ++ s ∷ [])
+    behind [] = go s.applies
+      where
+        go : (b : Bool) → then_some b s.gives ≡ cond b (Some s.gives) None
+        go true = refl
+        go false = refl
+    behind (y ∷ ys) = go y.applies (behind ys)
+      where
+        go : (b : Bool) → option_or (first_rule ys) (then_some s.applies s.gives) ≡ first_rule (ys ++ s ∷ [])
+            → option_or (cond b (Some y.gives) (first_rule ys)) (then_some s.applies s.gives) ≡ cond b (Some y.gives) (first_rule (ys ++ s ∷ []))
+        go true rest = refl
+        go false rest = rest
 
--- the family's first rule is the number at its place
-pub family_first_lem : (isg : Bool) (w : Weigh) (f : Facts) (o : Order) (m : Family) → m ≡ family_of isg w f o
-    → get_or (numbers_of (cross_rules (still_of isg o) f)) m.place 0 ≡ family_first isg f o
-unfolding family_of family_first cross_border
-family_first_lem isg w f o m e =
-    ap (λ (m : Family). get_or (numbers_of (cross_rules (still_of isg o) f)) m.place 0) e ∙ number_there (cross_rules (still_of isg o) f)
-
--- ---- what stands at the lesser of two places
-module _ (at : ℕ → ℕ) where
-  one_more : (b : Bool) (i p : ℕ) → cond (b && ltb i p) (at i) (at p) ≡ at (cond b (min i p) p)
-  one_more true i p = go (ltb i p) refl
-    where
-      go : (t : Bool) → ltb i p ≡ t → cond t (at i) (at p) ≡ at (min i p)
-      go true e = ap at (omega (arith, ltb-true i p e))
-      go false e = ap at (omega (arith, ltb-false i p e))
-  one_more false i p = refl
-
--- a later place does not move what is asked of an earlier one
-still_before : (b : Bool) (i j p : ℕ) → i < j → ltb i p ≡ ltb i (cond b (min j p) p)
-still_before true i j p h = go (ltb i p) refl
+    go : (b : Bool) → option_or (option_or (then_some b r.gives) (first_rule ys)) (then_some s.applies s.gives) ≡ cond b (Some r.gives) (first_rule (ys ++ s ∷ []))
+    go true = refl
+    go false = behind ys
+first_of_parts (x ∷ xs) ys r s = go x.applies (first_of_parts xs ys r s)
   where
-    go : (t : Bool) → ltb i p ≡ t → t ≡ ltb i (min j p)
-    go true e = sym (lt-ltb i (min j p) (omega (arith, ltb-true i p e)))
-    go false e = sym (le-ltb i (min j p) (omega (arith, ltb-false i p e)))
-still_before false i j p h = refl
+    go : (b : Bool) → option_or (option_or (option_or (first_rule xs) (then_some r.applies r.gives)) (first_rule ys)) (then_some s.applies s.gives) ≡ first_rule (xs ++ r ∷ (ys ++ s ∷ []))
+        → option_or (option_or (option_or (cond b (Some x.gives) (first_rule xs)) (then_some r.applies r.gives)) (first_rule ys)) (then_some s.applies s.gives)
+        ≡ cond b (Some x.gives) (first_rule (xs ++ r ∷ (ys ++ s ∷ [])))
+    go true rest = refl
+    go false rest = rest
 
--- ---- 30 and 47 beside the rules that are the same within 1 to 3, or within 4 and 5
--- their places, counted from 0
-abbrev pub at30 : ℕ
-at30 = 9
-
-abbrev pub at47 : ℕ
-at47 = 20
-
-module _ (c : Category) (f : Facts) (o : Order) where
-  -- at their places, and no other mark differs
-  added : marks_of (cross_rules (terms_of c f o) f) ≡ marked at30 (line_speed c o is 0) (marked at47 (is_short c f o) (marks_of (cross_rules (still_of c.isg o) f)))
-  unfolding terms_of still_of
-  added = refl
-
-  -- the first is the lesser of the family's and that of 47 where the margin is short, and of that and that of 30 where the line is missing
-  place_there : (p : ℕ) → p ≡ first_place (cross_rules (still_of c.isg o) f) → (q : ℕ) → q ≡ cond (is_short c f o) (min at47 p) p
-      → cond (line_speed c o is 0) (min at30 q) q ≡ first_place (cross_rules (terms_of c f o) f)
-  unfolding first_place
-  place_there p e q g =
-      let still = marks_of (cross_rules (still_of c.isg o) f) in
-      let short = is_short c f o in
-      let missing = line_speed c o is 0 in
-      let first : q ≡ leading not (marked at47 short still) = g ∙ ap (λ (n : ℕ). cond short (min at47 n) n) e ∙ sym (first_marked_lem at47 short still (omega arith)) in
-      ap (λ (n : ℕ). cond missing (min at30 n) n) first ∙ sym (first_marked_lem at30 missing (marked at47 short still) (omega arith)) ∙ ap (leading not) (sym added)
-
-  -- so the number is 30, 47 or the family's
-  pub broken_there : (m : Family) → m ≡ family_of c.isg c.weigh f o → (n : ℕ) → n ≡ family_first c.isg f o
-      → cond (line_speed c o is 0 && ltb at30 m.place) 30 (cond (is_short c f o && ltb at47 m.place) 47 n) ≡ broken_by cross_border c f o
-  unfolding family_of family_first broken_by cross_border
-  broken_there m e n g =
-      let at : ℕ → ℕ = λ place. get_or (numbers_of (cross_rules (terms_of c f o) f)) place 0 in
-      let p = m.place in
-      let q = cond (is_short c f o) (min at47 p) p in
-      let place = ap (λ (m : Family). m.place) e in
-      let own : n ≡ at p = g ∙ sym (number_there (cross_rules (still_of c.isg o) f)) ∙ ap at (sym place) in
-      ap₂ (λ (b : Bool) (n : ℕ). cond (line_speed c o is 0 && b) 30 (cond (is_short c f o && ltb at47 p) 47 n)) (still_before (is_short c f o) at30 at47 p (omega arith)) own
-      ∙ ap (cond (line_speed c o is 0 && ltb at30 q) 30) (one_more at (is_short c f o) at47 p)
-      ∙ one_more at (line_speed c o is 0) at30 q
-      ∙ ap at (place_there p place q refl)
-      ∙ number_there (cross_rules (terms_of c f o) f)
+-- a category breaks first what is common, 30, what its family breaks, or 47
+pub broken_there : (c : Category) (f : Facts) (o : Order)
+    → unwrap_or (option_or (option_or (option_or (first_rule (common_rules f)) (then_some (line_speed c o is 0) 30)) (first_rule (family_rules (still_of c.isg o) f))) (then_some (is_short c f o) 47)) 0
+    ≡ broken_by cross_border c f o
+unfolding broken_by cross_border terms_of
+broken_there c f o =
+    let t = terms_of c f o in
+    ap (λ x. unwrap_or x 0) (first_of_parts (common_rules f) (family_rules t f) (record { gives = 30; applies = line_speed c o is 0 }) (record { gives = 47; applies = is_short c f o }))
+    ∙ number_of_first (cross_rules t f)
 
 -- ---- common rules first
 -- among numbers above m, the first is above m or none is broken

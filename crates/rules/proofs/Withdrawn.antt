@@ -14,12 +14,11 @@ use Rattle.order.specs.declared.Order.{Order}
 use Rattle.categories.specs.Categories.{speed_of}
 use Rattle.categories.specs.Brakes.{begun_of}
 use Rattle.categories.specs.declared.category.Category.{Category}
-use Rattle.rules.specs.Rules.{rule, first_broken, is_short, terms_of}
+use Rattle.rules.specs.Rules.{rule, Terms, first_broken, is_short, terms_of}
 use Rattle.rules.specs.Books.{broken_by}
 use Rattle.rules.specs.CrossBorder.{common_rules, cross_rules, cross_border}
 use Rattle.rules.specs.Grants.{offer, offer_of, best_of, granted_of, six_of, decision_of}
 use Rattle.rules.specs.Withdrawn.{rule46, stood, former_rules, former_book, longer_than_all, NotReached}
-use Rattle.rules.specs.declared.rule.Terms.{Terms}
 use Rattle.rules.proofs.Rules.{first_some, zero_none, one_less, put_in, first_has}
 
 -- no part is longer than the whole

@@ -3,9 +3,8 @@ use Rattle.std.specs.Prelude.{not, ◌&&◌, List, [], ◌∷◌, ◌++◌}
 use Rattle.lists.specs.Words.{◌is◌, ◌above◌, ◌at_most◌}
 use Rattle.facts.specs.declared.Facts.{Facts}
 use Rattle.categories.specs.Categories.{cross_rows}
-use Rattle.rules.specs.Rules.{Rule, rule, terms_of}
+use Rattle.rules.specs.Rules.{Rule, rule, Terms, terms_of}
 use Rattle.rules.specs.Books.{RuleBook}
-use Rattle.rules.specs.declared.rule.Terms.{Terms}
 
 -- common to every category
 abbrev pub common_rules : Facts → List Rule
@@ -30,13 +29,11 @@ common_rules f =
     ∷ rule 23 (f.axles above 250)
     ∷ []
 
--- after the common ones, in rising number
-abbrev pub own_rules : Terms → Facts → List Rule
-own_rules t f =
-    -- 30, all: the column and every column to its right are missing (000, 1502)
-    rule 30 (t.line is 0)
+-- 31 to 44, which ask nothing that differs within 1 to 3, or within 4 and 5
+abbrev pub family_rules : Terms → Facts → List Rule
+family_rules t f =
     -- 31, all: more engines, working and hauled, than 3 (1 to 3) or 6 (4 and 5)
-    ∷ rule 31 (f.engines above t.most)
+    rule 31 (f.engines above t.most)
     -- 32, 4 and 5: braked masses of records set to V above 200 t
     ∷ rule 32 (t.isg && f.vmass above 2000)
     -- 33, 4 and 5: more than 10 successive hauled vehicles isolated
@@ -55,9 +52,17 @@ own_rules t f =
     ∷ rule 43 (not t.isg && f.hauledMass above 12000 && f.firstFiveV)
     -- 44, 1 to 3: hauled mass above 1,200 t and a hauled vehicle after the fifth set to M (note 6)
     ∷ rule 44 (not t.isg && f.hauledMass above 12000 && f.afterFifthM)
+    ∷ []
+
+-- after the common ones, in rising number
+abbrev pub own_rules : Terms → Facts → List Rule
+own_rules t f =
+    -- 30, all: the column and every column to its right are missing (000, 1502)
+    rule 30 (t.line is 0)
+    ∷ family_rules t f
     -- 46 is withdrawn (request Five), and its number is given to no other rule
     -- 47, all: braked mass too small
-    ∷ rule 47 t.short
+    ++ rule 47 t.short
     ∷ []
 
 abbrev pub cross_rules : Terms → Facts → List Rule

@@ -7,7 +7,6 @@ use Rattle.order.specs.declared.Order.{Order}
 use Rattle.categories.specs.Categories.{line_speed}
 use Rattle.categories.specs.Brakes.{margin_for}
 use Rattle.categories.specs.declared.category.Category.{Category}
-use Rattle.rules.specs.declared.rule.Terms.{Terms}
 
 abbrev pub Rule : Type 0
 Rule = Case ℕ
@@ -26,7 +25,20 @@ numbers_of rules = map (λ r. r.gives) rules
 abbrev pub marks_of : List Rule → List Bool
 marks_of rules = map (λ r. r.applies) rules
 
--- what the cross-border rules ask beside the facts, by whether it is one of 4 and 5, the line's speed and whether the braked mass is too small
+-- what a category and the order ask beside the facts
+pub record Terms : Type 0 where
+  -- 4 and 5
+  pub isg : Bool
+  -- the line's speed, 0 where every column is missing
+  pub line : ℕ
+  -- the most engines
+  pub most : ℕ
+  -- the smaller of LRA and admissible mass
+  pub load : ℕ
+  -- braked mass too small
+  pub short : Bool
+
+-- those of the cross-border rules, by whether it is one of 4 and 5, the line's speed and whether the braked mass is too small
 abbrev pub terms_at : Bool → ℕ → Bool → Order → Terms
 terms_at isg line short o =
     record {

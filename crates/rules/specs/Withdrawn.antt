@@ -7,11 +7,10 @@ use Rattle.order.specs.declared.Order.{Order}
 use Rattle.categories.specs.Categories.{cross_rows, category_of}
 use Rattle.categories.specs.Brakes.{begun_of}
 use Rattle.categories.specs.declared.category.Category.{Category}
-use Rattle.rules.specs.Rules.{Rule, rule, terms_of}
+use Rattle.rules.specs.Rules.{Rule, rule, Terms, terms_of}
 use Rattle.rules.specs.Books.{RuleBook, rules_of, broken_by}
 use Rattle.rules.specs.CrossBorder.{cross_rules, cross_border}
 use Rattle.rules.specs.Limits.{line, having}
-use Rattle.rules.specs.declared.rule.Terms.{Terms}
 
 -- 46, 1 to 3: more than 10 begun 20 m of the hauled vehicles set to V (note 7)
 abbrev pub rule46 : Terms → Facts → Rule

@@ -1,10 +1,9 @@
 // What a train breaks in each category, and the category granted.
 ghost use Rattle.std.specs.Prelude.{◌≡◌};
-ghost use Rattle.rules.specs.Families.{family_of, family_first};
-ghost use Rattle.rules.specs.Grants.{offer_of, better_of, best_of, decided_by, decision_of};
+ghost use Rattle.rules.specs.Grants.{better_of, best_of, decided_by, decision_of};
 ghost use Rattle.rules.specs.CrossBorder.{cross_border};
 
-use crate::rule::{Family, broken_by, family_of, number_at};
+use crate::family::Family;
 use categories::category::{Category, Weigh};
 use facts::Facts;
 use order::Order;
@@ -39,19 +38,6 @@ pub struct Best {
 pub struct Decision {
     pub offers: [Offer; 6],
     pub granted: Option<Best>,
-}
-
-fn offered(m: Family, first: u8, c: Category, f: Facts, o: Order) -> Offer
-    requires m_value { m ≡ family_of c.isg c.weigh f o }
-    requires first_value { first ≡ family_first c.isg f o }
-    ensures { result ≡ offer_of cross_border f o c }
-{
-    let line = c.line_speed(o);
-    Offer {
-        number: c.number,
-        speed: c.speed_on(line, f.slowest),
-        broken: broken_by(m, first, line, c, f, o),
-    }
 }
 
 // An offer that stands goes before the best of those behind it unless that one is faster.
@@ -94,14 +80,17 @@ pub fn decided(asked: u8, offers: [Offer; 6]) -> Decision
 pub fn decide_cross_border(f: Facts, o: Order) -> Decision
     ensures { result ≡ decision_of cross_border f o }
 {
-    let p = family_of(false, Weigh::ThreeQuarters, f, o);
-    let g = family_of(true, Weigh::Whole, f, o);
-    let first_p = number_at(p.place);
-    let first_g = number_at(g.place);
-    let x1 = offered(p, first_p, Category::ME120_P120, f, o);
-    let x2 = offered(p, first_p, Category::ME100_P100, f, o);
-    let x3 = offered(p, first_p, Category::MA100_P100, f, o);
-    let x4 = offered(g, first_g, Category::MA100_G100, f, o);
-    let x5 = offered(g, first_g, Category::MA90_G90, f, o);
-    decided(o.asked, [x1, x2, x3, x4, x5, Offer::ABSENT])
+    let p = Family::new(false, Weigh::ThreeQuarters, f, o);
+    let g = Family::new(true, Weigh::Whole, f, o);
+    decided(
+        o.asked,
+        [
+            p.offered(Category::ME120_P120),
+            p.offered(Category::ME100_P100),
+            p.offered(Category::MA100_P100),
+            g.offered(Category::MA100_G100),
+            g.offered(Category::MA90_G90),
+            Offer::ABSENT,
+        ],
+    )
 }

@@ -12,5 +12,5 @@ pub returns : goal.returns
 unfolding base_of
 returns c =
     let a = c.args in
-    let e = c.word_of.ensures ∙ ap (λ (t : Terms). word_of (marks_of (domestic_rules t a.f))) c.still_terms.ensures in
+    let e = c.word_of.ensures ∙ ap word_of (c.marks_of.ensures ∙ ap (λ (t : Terms). marks_of (domestic_rules t a.f)) c.still_terms.ensures) in
     (e, omega (arith, e, word_lt (marks_of (domestic_rules (still_of a.isma a.f a.o) a.f))))
