@@ -84,17 +84,19 @@ sheet_kept f elsewhere o =
 
 -- ---- what a margin of such facts is made of
 abbrev StepsMost : Steps → Type 0
-StepsMost p = (p.p1 ≤ 200) × (p.p2 ≤ 200) × (p.p3 ≤ 200) × (p.beyond ≤ 200)
+StepsMost p = Every (λ step. step.1 ≤ 200) p.up_to × (p.beyond ≤ 200)
 
 -- a table's percentage is at most 108, at any train length
 stepped_most : (p : Steps) → StepsMost p → (length : ℕ) → stepped p length ≤ 200
-stepped_most p most length = go (length at_most p.end1) (length at_most p.end2) (length at_most p.end3)
+stepped_most p most length = first_most p.up_to most.0
   where
-    go : (a b c : Bool) → cond a p.p1 (cond b p.p2 (cond c p.p3 p.beyond)) ≤ 200
-    go true b c = most.0
-    go false true c = most.1
-    go false false true = most.2
-    go false false false = most.3
+    first_most : (steps : List (ℕ × ℕ)) → Every (λ step. step.1 ≤ 200) steps → stepped (record { up_to = steps; beyond = p.beyond }) length ≤ 200
+    first_most [] each = most.1
+    first_most (step ∷ steps) each = go (length at_most step.0) (first_most steps each.1)
+      where
+        go : (b : Bool) → stepped (record { up_to = steps; beyond = p.beyond }) length ≤ 200 → cond b step.1 (stepped (record { up_to = steps; beyond = p.beyond }) length) ≤ 200
+        go true rest = each.0
+        go false rest = rest
 
 asked_most : (n : ℕ) (rows : List Category) → Every (λ c. StepsMost c.percentage) rows → StepsMost (category_of n rows).percentage
 asked_most n [] each = omega arith
