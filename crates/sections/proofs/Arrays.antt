@@ -5,7 +5,25 @@ use native.Mathlib.Decide.{dec_le}
 use mathlib.Core.List.{zip_with}
 use denote.Param.Members.{Mut, Called}
 use Rattle.std.proofs.lemmas.List.{same_lists, length-map, get_or-map}
-use Rattle.std.specs.Array.{IsMapOf, MapsFrom}
+use Rattle.std.specs.Array.{IsFromFnResult, IsFromFnResultFrom, IsMapOf, MapsFrom}
+
+-- of each number below n
+module _ {F B : Type 0} (g : Mut F (ℕ × Unit {0}) B) (h : ℕ → B) (f : F) (made : (i : ℕ) (y : B) (q : F) → Called g f (i, tt) y q → (q ≡ f) × (y ≡ h i)) (ys : List B) where
+  made_from : (n i : ℕ) → IsFromFnResultFrom g f ys i n → (k : ℕ) (d : B) → i ≤ k → k < i + n → get_or ys k d ≡ h k
+  made_from zero i r k d l u = absurd (omega arith)
+  made_from (suc n) i r k d l u =
+      go (dec_le (i + 1) k)
+      (λ more. made_from n (i + 1) (subst (λ (p : F). IsFromFnResultFrom g p ys (i + 1) n) (made i r.1 r.0 r.3).0 r.4) k d more (omega arith))
+    where
+      go : Dec (i + 1 ≤ k) → (i + 1 ≤ k → get_or ys k d ≡ h k) → get_or ys k d ≡ h k
+      go (yes more) rest = rest more
+      go (no here) rest =
+          let at : k ≡ i = omega arith in
+          ap (λ (j : ℕ). get_or ys j d) at ∙ r.2.1 d ∙ (made i r.1 r.0 r.3).1 ∙ ap h (sym at)
+
+pub from_fn_at : {F B : Type 0} {g : Mut F (ℕ × Unit {0}) B} {f : F} {ys : List B} {n : ℕ} → IsFromFnResult g f ys n → (h : ℕ → B)
+    → ((i : ℕ) (y : B) (q : F) → Called g f (i, tt) y q → (q ≡ f) × (y ≡ h i)) → (k : ℕ) (d : B) → k < n → get_or ys k d ≡ h k
+from_fn_at {g = g} {f = f} {ys = ys} {n = n} r h made k d u = made_from g h f made ys n 0 r.each k d (omega arith) (omega arith)
 
 -- of each member of a list
 module _ {F A B : Type 0} (g : Mut F (A × Unit {0}) B) (v : A → B) (f : F) (made : (x : A) (y : B) (q : F) → Called g f (x, tt) y q → (q ≡ f) × (y ≡ v x)) (xs : List A) (ys : List B) where

@@ -11,6 +11,7 @@ use categories::category::{Category, category_of};
 use facts::Facts;
 use order::{Book, read_order};
 use rules::grant::{Best, Offer, choose};
+use std::array;
 
 // Before any section a category breaks no rule, and has its own speed.
 fn unbroken(c: Category) -> Offer
@@ -50,11 +51,7 @@ fn slower(here: Offer, further: Offer) -> Offer
 fn in_front(here: [Offer; 6], further: [Offer; 6]) -> [Offer; 6]
     ensures { result ≡ in_front here further }
 {
-    let mut offers = further;
-    for (i, offer) in here.iter().enumerate() {
-        offers[i] = slower(*offer, further[i]);
-    }
-    offers
+    array::from_fn(|i| slower(here[i], further[i]))
 }
 
 // From the last section to the first, so that the first rule broken is the one that stays.
@@ -62,6 +59,7 @@ fn offers_on(book: Book, f: Facts, orders: &[u8]) -> [Offer; 6]
     ensures { result ≡ offers_on (book_of book) f (sections_of orders.now) }
 {
     let mut offers = on_no_section(book);
+    // No fold, and a let: of a closure that gives an array, and of a call laid in one, no proof is had.
     for section in sections_in(orders).iter().rev() {
         let here = decide(book, f, read_order(section));
         let with_it = in_front(here.offers, offers);
