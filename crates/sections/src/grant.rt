@@ -55,6 +55,7 @@ fn in_front(here: [Offer; 6], further: [Offer; 6]) -> [Offer; 6]
 }
 
 // From the last section to the first, so that the first rule broken is the one that stays.
+#[tactic(auto, using(crate::proofs::Gathers::all_left, crate::proofs::Gathers::one_less, crate::proofs::Gathers::none_left))]
 fn offers_on(book: Book, f: Facts, orders: &[u8]) -> [Offer; 6]
     ensures { result ≡ offers_on (book_of book) f (sections_of orders.now) }
 {
@@ -69,6 +70,7 @@ fn offers_on(book: Book, f: Facts, orders: &[u8]) -> [Offer; 6]
 }
 
 // The category granted for the whole route, by the first section's book.
+#[tactic(auto, using(crate::proofs::Gathers::granted_by))]
 pub fn grant_on(f: Facts, orders: &[u8]) -> Option<Best>
     ensures { result ≡ granted_on (book_of (book_on (sections_of orders.now))) f (sections_of orders.now) }
 {

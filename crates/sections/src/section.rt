@@ -8,6 +8,7 @@ use order::{Order, is_good_order, read_order};
 use record::vehicle::SIZE;
 
 // The sections' records; bytes behind the last whole one are left out.
+#[tactic(auto, using(crate::proofs::Places::chunks_read))]
 pub(crate) fn sections_in(orders: &[u8]) -> &[[u8; SIZE]]
     ensures { result.now ≡ records_of orders.now }
 {
@@ -15,6 +16,7 @@ pub(crate) fn sections_in(orders: &[u8]) -> &[[u8; SIZE]]
 }
 
 // The first section, whose category and book are the route's; where there is none, the order of zeros.
+#[tactic(auto, using(crate::proofs::Places::none_read, crate::proofs::Places::first_read, crate::proofs::Places::sections_read))]
 pub(crate) fn first_section(orders: &[u8]) -> Order
     ensures { result ≡ first_on (sections_of orders.now) }
 {
@@ -25,6 +27,7 @@ pub(crate) fn first_section(orders: &[u8]) -> Order
 }
 
 // Refusal 4 is for a section that is not so.
+#[tactic(auto, using(crate::proofs::Places::section_bad, crate::proofs::Places::section_good))]
 fn is_good_section(first: Order, section: &[u8]) -> bool
     ensures { result ≡ good_section first.asked first.book section.now }
 {

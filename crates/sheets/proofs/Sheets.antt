@@ -1,10 +1,13 @@
 -- Laws of the sheet's figures and bytes, of both books. Assumes nothing.
-use Prim.Native.Nat.{ℕ, ◌≤◌}
+use Prim.Native.Nat.{ℕ, ◌+◌, ◌-◌, ◌≤◌}
 use native.Mathlib.Omega.{arith}
-use mathlib.Core.Path.{◌≡◌, refl, sym, ap₂, subst}
+use mathlib.Core.Path.{◌≡◌, refl, sym, ap₂, subst, ap, ◌∙◌}
 use mathlib.Core.Bool.{Bool, true, false, cond}
-use mathlib.Core.List.{List, [], ◌∷◌, map}
-use lib.ListN.{get_or, take, drop}
+use mathlib.Core.List.{List, [], ◌∷◌, ◌++◌, map}
+use borrow.Rule.Slice.PartMut.{put_mid}
+use lib.ListN.{length, get_or, take, drop, replicate}
+use Rattle.std.proofs.lemmas.List.{take-append-le, drop-drop, drop_at, drop-replicate}
+use Rattle.std.specs.Int.{from_bool}
 use Rattle.lists.specs.Words.{◌is◌, ◌at_most◌, Every}
 use Rattle.margin.specs.Margin.{fourfold, tonnes_of, bytes_of, Reached}
 use Rattle.facts.specs.Facts.{Bounded}
@@ -37,6 +40,11 @@ unfolding decision_of offer_of book_of cross_border domestic broken_by
 common_there CrossBorder f o = first_up_to 23 (common_rules f) (own_rules (terms_of (get_or cross_rows 0 none) f o) f) (omega arith) (omega arith)
 common_there Domestic f o = refl
 
+-- a mark as a byte
+pub byte_of : (b : Bool) → from_bool b ≡ cond b 1 0
+byte_of true = refl
+byte_of false = refl
+
 -- the bytes as they are laid are the sheet's
 pub laid_sheet : (b : Book) (f : Facts) (o : Order)
     → laid (head_bytes (figures_of (book_of b) f o)) (tail_bytes (figures_of (book_of b) f o)) (sheet_length b) ≡ in_most (sheet_of (book_of b) f o)
@@ -48,6 +56,21 @@ laid_sheet Domestic f o = refl
 pub length_within : (b : Book) → (23 ≤ sheet_length b) × (sheet_length b ≤ 33)
 length_within CrossBorder = omega arith
 length_within Domestic = omega arith
+
+-- the tail ends at n, and behind it are what is left of 23 zeros
+pub two_copies : (head tail : List ℕ) (n : ℕ) → length head ≡ 10 → 23 ≤ n → n ≤ 33 → put_mid (n - 23) (n - (n - 23)) (head ++ replicate 23 0) tail ≡ laid head tail n
+two_copies head tail n h low high =
+    let front : n - 23 ≤ length head = omega arith in
+    let end : n - 23 + (n - (n - 23)) ≡ 10 + (n - 10) = omega arith in
+    let left : 23 - (n - 10) ≡ 33 - n = omega arith in
+    ap₂ (λ (x y : List ℕ). x ++ (tail ++ y))
+    (take-append-le (n - 23) head (replicate 23 0) front)
+    (drop-drop (n - (n - 23)) (n - 23) (head ++ replicate 23 0)
+    ∙ ap (λ (k : ℕ). drop k (head ++ replicate 23 0)) end
+    ∙ sym (drop-drop (n - 10) 10 (head ++ replicate 23 0))
+    ∙ ap (drop (n - 10)) (drop_at head (replicate 23 0) 10 h)
+    ∙ drop-replicate (n - 10) 23 0
+    ∙ ap (λ (k : ℕ). replicate k 0) left)
 
 -- where the margin stands
 pub margin_bytes_there : (b : Book) (f : Facts) (o : Order) → take 3 (drop (margin_at b) (sheet_of (book_of b) f o)) ≡ bytes_of (tonnes_of (margin_for (asked_of (book_of b) o) f o))

@@ -69,6 +69,7 @@ fn common_of(book: Book, first: u8) -> u8
 
 impl Sheet {
     // The figures by the order's book.
+    #[tactic(auto, using(crate::proofs::Sheets::common_there, crate::proofs::Sheets::byte_of, books::proofs::Demands::book_rows), unfolding(crate::specs::Sheets::figures_of))]
     fn of(f: Facts, o: Order) -> Sheet
         ensures { result ≡ figures_of (book_of o.book) f o }
     {
@@ -150,6 +151,7 @@ impl Sheet {
 }
 
 // The head, and over it the tail, which ends a sheet of so many bytes; zeros up to 33.
+#[tactic(auto, using(crate::proofs::Sheets::two_copies))]
 fn lay(head: [u8; HEAD], tail: [u8; TAIL], length: usize) -> [u8; MOST]
     requires { (23 ≤ length) × (length ≤ 33) }
     ensures { result ≡ laid head tail length }
@@ -161,6 +163,7 @@ fn lay(head: [u8; HEAD], tail: [u8; TAIL], length: usize) -> [u8; MOST]
 }
 
 // The sheet by the order's book: 32 bytes and a 0, or 33.
+#[tactic(auto, using(crate::proofs::Sheets::laid_sheet, crate::proofs::Sheets::length_within))]
 pub fn sheet_of(f: Facts, o: Order) -> [u8; MOST]
     ensures { result ≡ in_most (sheet_of (book_of o.book) f o) }
 {
