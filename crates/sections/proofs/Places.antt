@@ -1,16 +1,13 @@
 -- The sections of a route as code reads them. Assumes nothing.
-use Prim.Native.Nat.{ℕ, zero, suc, ◌+◌, ◌*◌, ◌≤◌, ◌<◌}
+use Prim.Native.Nat.{ℕ, zero, suc, ◌*◌, ◌≤◌, ◌<◌}
 use native.Mathlib.Omega.{arith}
 use mathlib.Core.Path.{◌≡◌, refl, sym, ap, ap₂, ◌∙◌}
-use mathlib.Core.Bool.{Bool, true, false, ◌&&◌, cond}
+use mathlib.Core.Bool.{true, false, ◌&&◌}
 use mathlib.Core.List.{List, [], ◌∷◌, map}
 use denote.Enum.Bare.{sameb}
 use lib.Dec.{eqb}
 use lib.ListN.{length, get_or, take, drop, length-map, length-drop, get_or-map}
 use lib.Seq.{length-take-le}
-use Rattle.std.specs.Simd.{first_chunks}
-use Rattle.std.specs.List.{prefix_len}
-use Rattle.lists.specs.Words.{leading}
 use Rattle.record.specs.Records.{records, record_count, records_of}
 use Rattle.record.proofs.Records.{length_records}
 use Rattle.order.specs.declared.Book.{Book}
@@ -21,19 +18,6 @@ use Rattle.order.specs.Orders.{good_order, order_of, order_read}
 use Rattle.order.proofs.Demands.{read_good, read_whole}
 use Rattle.sections.specs.Routes.{first_on}
 use Rattle.sections.specs.Sections.{sections_of, same_book, good_section}
-
--- the chunks that code reads are the records
-pub chunks_read : (n : ℕ) (bs : List ℕ) → first_chunks 24 n bs ≡ records n bs
-unfolding records
-chunks_read zero bs = refl
-chunks_read (suc n) bs = ap (λ (rs : List (List ℕ)). take 24 bs ∷ rs) (chunks_read n (drop 24 bs))
-
--- as many lead as std counts
-pub prefix_leads : {A : Type 0} (p : A → Bool) (xs : List A) → prefix_len p xs ≡ leading p xs
-prefix_leads p [] = refl
-prefix_leads p (x ∷ xs) =
-    let more : 1 + prefix_len p xs ≡ suc (leading p xs) = omega (arith, prefix_leads p xs) in
-    ap (λ (n : ℕ). cond (p x) n 0) more
 
 -- ---- a record is read as the order that it says, for it is whole
 reads_each : (n : ℕ) (bs : List ℕ) → 24 * n ≤ length bs → map order_read (records n bs) ≡ map order_of (records n bs)

@@ -8,7 +8,7 @@ use order::{Order, is_good_order, read_order};
 use record::vehicle::SIZE;
 
 // The sections' records; bytes behind the last whole one are left out.
-#[tactic(auto, using(crate::proofs::Places::chunks_read))]
+#[tactic(auto, using(record::proofs::Records::chunks_records))]
 pub(crate) fn sections_in(orders: &[u8]) -> &[[u8; SIZE]]
     ensures { result.now ≡ records_of orders.now }
 {
