@@ -88,7 +88,9 @@ pub fn account_of(portion: &[u8]) -> Result<Account, Refusal>
     }
     let mut gathered = Gathered::new();
     for (i, record) in records.iter().enumerate() {
-        let vehicle = read(record).ok_or(Refusal::BadField(i))?;
+        let Some(vehicle) = read(record) else {
+            return Err(Refusal::BadField(i));
+        };
         if vehicle.kind == Kind::WorkingEngine {
             return Err(engine_or_bad(portion));
         }

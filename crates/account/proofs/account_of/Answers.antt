@@ -36,40 +36,35 @@ pub loop-i-init : goal.loop-i-init
 unfolding all records
 loop-i-init c = record { fine = refl; each = tt; sums = c.new-gathered.ensures }
 
-pub returns-in_err-vehicle : goal.returns-in_err-vehicle
-returns-in_err-vehicle c =
+pub returns-in_default : goal.returns-in_default
+returns-in_default c =
     let bs = c.args.portion.now in
     let i = c.loop-i.i in
-    let none = sym c.in_err-vehicle.ensures.ok_part ∙ read_at bs _ i _ c.as_chunks.ensures.front (omega (arith, c.as_chunks.ensures.front_len)) c.read.ensures in
-    let bad = c.in_err-vehicle.ensures.value ∙ ap (λ (o : Option Vehicle). ok_or o (BadField i)) c.in_err-vehicle.ensures.ok_part in
-    let field : c.in_err-vehicle.field-0.0 ≡ BadField i = cc bad in
-    let p = err_from_is_err_and c.from_residual.result c.from_residual.ensures.1 in
-    p.1
-    ∙ ap (λ (r : Refusal). Err r) (p.2 ∙ field)
-    ∙ answer_3 bs (whole c.as_chunks.ensures.back_len c.is_empty.ensures c.if-not-is_empty.false) (omega (arith, c.as_chunks.ensures.front_len)) i
+    let none = read_at bs _ i _ c.as_chunks.ensures.front (omega (arith, c.as_chunks.ensures.front_len)) c.in_default.ensures in
+    answer_3 bs (whole c.as_chunks.ensures.back_len c.is_empty.ensures c.if-not-is_empty.false) (omega (arith, c.as_chunks.ensures.front_len)) i
     (first_place_lem _ i bs (omega (arith, c.as_chunks.ensures.front_len)) c.loop-i.invariant.fine (bad_reading _ none))
 
 pub returns-then-eq : goal.returns-then-eq
 returns-then-eq c =
     let bs = c.args.portion.now in
     let i = c.loop-i.i in
-    let w : c.eq.result ≡ is_working c.in_ok-vehicle.vehicle = search rules in
-    let g = good_reading _ _ (sym c.in_ok-vehicle.ensures.ok_part ∙ read_at bs _ i _ c.as_chunks.ensures.front (omega (arith, c.as_chunks.ensures.front_len)) c.read.ensures) in
+    let w : c.eq.result ≡ is_working c.in-Some.vehicle = search rules in
+    let g = good_reading _ _ (read_at bs _ i _ c.as_chunks.ensures.front (omega (arith, c.as_chunks.ensures.front_len)) c.in-Some.ensures) in
     ap (λ (r : Refusal). Err r) c.engine_or_bad.ensures
     ∙ answer_6 bs (whole c.as_chunks.ensures.back_len c.is_empty.ensures c.if-not-is_empty.false) (omega (arith, c.as_chunks.ensures.front_len))
     (working_there bs i (omega (arith, c.as_chunks.ensures.front_len)) (sym (ap is_working g.1) ∙ sym w ∙ c.if-eq.true))
 
 -- the record at `i` was read, and is no working engine
-here : (e : Else-eq) → Turn e.args.portion.now e.loop-i.i e.in_ok-vehicle.vehicle
+here : (e : Else-eq) → Turn e.args.portion.now e.loop-i.i e.in-Some.vehicle
 here e =
     let bs = e.args.portion.now in
     let i = e.loop-i.i in
-    let w : e.eq.result ≡ is_working e.in_ok-vehicle.vehicle = search rules in
-    turn bs i _ (sym e.in_ok-vehicle.ensures.ok_part ∙ read_at bs _ i _ e.as_chunks.ensures.front (omega (arith, e.as_chunks.ensures.front_len)) e.read.ensures) (sym w ∙ e.if-eq.false)
+    let w : e.eq.result ≡ is_working e.in-Some.vehicle = search rules in
+    turn bs i _ (read_at bs _ i _ e.as_chunks.ensures.front (omega (arith, e.as_chunks.ensures.front_len)) e.in-Some.ensures) (sym w ∙ e.if-eq.false)
 
 pub add-requires : goal.add-requires
 add-requires c =
-    room c.args.portion.now c.loop-i.i c.in_ok-vehicle.vehicle (here (goal.at.add-requires c).Else-eq) c.loop-i.gathered c.loop-i.invariant.each (omega (arith, c.loop-i-test.true)) c.loop-i.invariant.sums
+    room c.args.portion.now c.loop-i.i c.in-Some.vehicle (here (goal.at.add-requires c).Else-eq) c.loop-i.gathered c.loop-i.invariant.each (omega (arith, c.loop-i-test.true)) c.loop-i.invariant.sums
 
 pub loop-i-preserved : goal.loop-i-preserved
 loop-i-preserved c =
