@@ -22,7 +22,7 @@ use Rattle.record.proofs.Demands.{found_number_lem, found_place_lem, mistyped_so
 use Rattle.account.specs.Accounts.{account_of, empty, sums}
 use Rattle.account.specs.Ceilings.{◌up_to◌, figures, within, Within}
 use Rattle.account.specs.Joining.{joining}
-use Rattle.account.specs.Answers.{Answer, number_of, place_of, answer_number, answer_place}
+use Rattle.account.specs.Answers.{Answer, account_given, number_of, place_of, answer_number, answer_place}
 use Rattle.account.specs.Portions.{portion_refusals, engine_or_bad, accounted, join_refusals, joined}
 use Rattle.account.specs.Groupings.{Hauled, GoodHauled, Portion, GoodPortion, Grouping, uncut, joined_vehicles, joined_bytes, BetweenRecords, NoneRefused}
 use Rattle.account.specs.declared.Account.{Account}
@@ -55,6 +55,10 @@ join_numbers left right = refl
 pub join_places : (left right : Account) → map (λ (r : Case Refusal). place_of r.gives) (join_refusals left right) ≡ 0 ∷ 0 ∷ []
 unfolding join_refusals
 join_places left right = refl
+
+-- a refusal gives the empty account
+pub refused_gives_empty : (answer : Answer) (refusal : Refusal) → answer ≡ Err refusal → account_given answer ≡ empty
+refused_gives_empty answer refusal e = ap account_given e
 
 -- each is given when it applies and no earlier one does, and none when none applies; other stands for no case at all
 pub answered_in_order : (other : Refusal) (rs : List (Case Refusal)) (f : First other rs) → answered rs ≡ Err (case_at other rs f.place).gives

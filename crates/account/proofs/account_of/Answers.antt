@@ -5,19 +5,16 @@ use mathlib.Core.Bool.{Bool, true}
 use lib.Dec.{eqb}
 use Prim.Native.Nat.{ℕ}
 use borrow.Author.Tests.{eqb-false, eqb-true}
-use Rattle.std.specs.Prelude.{Option, Ok, Err, ok_or}
+use Rattle.std.specs.Prelude.{Ok, Err}
 use Rattle.account.specs.declared.Account.{Account}
 use Rattle.account.specs.declared.Refusal.{Refusal}
-use Rattle.account.specs.declared.Refusal.TheVariants.{BadField}
 use Rattle.lists.specs.Words.{all}
 use Rattle.record.specs.Records.{record_count, records}
 use Rattle.record.specs.Vehicles.{vehicles, is_working}
-use Rattle.record.specs.declared.vehicle.Vehicle.{Vehicle}
 use Rattle.record.proofs.Vehicles.{records_more, first_place_lem, good_reading, bad_reading}
 use Rattle.account.proofs.Gathers.{each_more, gathered_more, room}
 use Rattle.account.proofs.Portions.{read_at, Turn, turn, none_working, working_there, answer_1, answer_2, answer_3, answer_6, answer_0}
 use borrow.Author.Rules.{rules}
-use Rattle.std.proofs.lemmas.Result.{err_from_is_err_and}
 use Rattle.account.proofs.account_of.Goals as goal
 use Rattle.account.proofs.account_of.Goals.{Else-eq}
 
