@@ -1,5 +1,5 @@
 -- What the library's words make of a list, by the words of lists. Assumes nothing.
-use Rattle.std.proofs.Common.{◌≡◌, ℕ, ◌+◌, Bool, true, false, ◌||◌, cond, List, [], ◌∷◌, refl, ap, ◌∙◌, sym, arith}
+use Rattle.std.proofs.Common.{◌≡◌, ℕ, ◌+◌, ◌%◌, Bool, true, false, ◌||◌, cond, List, [], ◌∷◌, refl, ap, ◌∙◌, sym, arith}
 use Rattle.std.specs.Prelude.{count_by}
 use Rattle.std.specs.List.{list_any}
 use Rattle.std.proofs.lemmas.List.Recursion.{is_count_by}
@@ -11,6 +11,10 @@ counted p xs = sym (is_count_by (count p) p refl (λ x xs. go (p x) (count p xs)
     go : (b : Bool) (n : ℕ) → cond b 1 0 + n ≡ cond b (1 + n) n
     go true n = refl
     go false n = omega arith
+
+-- the byte of a figure in 32 bits is that of the sum
+pub low_byte : (x : ℕ) → x % 4294967296 % 256 ≡ x % 256
+low_byte x = omega arith
 
 -- one has either where one has the first, or one the second
 pub some_or : (p q : ℕ → Bool) (xs : List ℕ) → (list_any p xs || list_any q xs) ≡ some (λ x. p x || q x) xs

@@ -87,6 +87,7 @@ fn after_fifth_m(a: Account) -> bool
 }
 
 // Braked as a long locomotive: every working engine set to M, none of the first five set to V or R (000, 1403.2).
+#[tactic(auto, using(crate::proofs::Counts::some_or))]
 fn is_long(working_not_m: bool, a: Account) -> bool
     ensures { result ≡ (not working_not_m && not (some (λ s. s is 2 || s is 3) a.first)) }
 {
@@ -100,6 +101,7 @@ fn few_wagons(a: Account) -> bool
     u64::from(a.count) < u64::from(a.engines) + 2
 }
 
+#[tactic(auto, using(crate::proofs::Counts::low_byte), unfolding(crate::specs::Facts::held, crate::specs::Facts::beside_of, crate::specs::Engines::both_of))]
 fn beside(e: Engines, s: Engines, a: Account) -> Facts
     ensures { result ≡ held (beside_of (both_of e s) a) }
 {

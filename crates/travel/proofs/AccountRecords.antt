@@ -1,35 +1,26 @@
 -- Laws of the account as it travels. Assumes nothing.
-use Prim.Native.Nat.{ℕ, suc, ◌+◌, ◌*◌, ◌/◌, ◌%◌, ◌^◌, ◌≤◌, ◌<◌}
+use Prim.Native.Nat.{ℕ, ◌+◌, ◌*◌, ◌/◌, ◌%◌, ◌^◌, ◌≤◌, ◌<◌}
 use mathlib.Core.Path.{◌≡◌, refl, sym, ap, ap₂, subst, ◌∙◌}
 use mathlib.Core.Bool.{Bool, true, false, ◌&&◌, cond}
 use mathlib.Core.List.{List, [], ◌∷◌, ◌++◌, append_assoc, map}
 use native.Mathlib.Nat.{div-div-eq-div-mul}
 use native.Mathlib.Omega.{arith}
 use borrow.Author.Tests.{leb-true, leb-false, le-leb, lt-leb, eqb-true, eq-eqb, ne_eqb}
-use lib.ListN.{length, get_or, take, drop}
-use lib.Seq.{drop-cons, drop-drop, sets}
+use lib.ListN.{length, take, drop}
+use lib.Seq.{drop-drop, sets}
 use borrow.Rule.Slice.PartMut.{put_mid}
-use Rattle.std.specs.Int.{w32, from_le_bytes, to_le_bytes}
+use Rattle.std.specs.Int.{w32, to_le_bytes}
 use Rattle.std.specs.List.{list_all}
 use Rattle.std.proofs.lemmas.List.Edits.{sets-eq}
 use Rattle.lists.specs.Words.{◌is◌, ◌at_most◌, all, Every}
 use Rattle.lists.specs.Numbers.{little_endian}
-use Rattle.lists.proofs.Lists.{both}
+use Rattle.lists.proofs.Lists.{both, all_list}
 use Rattle.account.specs.Ceilings.{within, Within}
 use Rattle.account.specs.declared.Account.{Account}
 use Rattle.account.proofs.Demands.{figure_at_lem}
-use Rattle.travel.specs.AccountRecords.{size, figure_at, marks_in, unused_in, account_in, is_plain, is_account, above_ceiling, offered, figure_bytes, mark, setting_byte, five, record_of}
+use Rattle.travel.specs.AccountRecords.{size, marks_in, unused_in, account_in, is_plain, is_account, above_ceiling, offered, figure_bytes, mark, setting_byte, five, record_of}
 
--- ---- four bytes, as the library reads and writes them
-pub four_at : (bs : List ℕ) (s : ℕ) → s + 4 ≤ length bs → from_le_bytes w32 (get_or bs s 0 ∷ get_or bs (s + 1) 0 ∷ get_or bs (s + 2) 0 ∷ get_or bs (s + 3) 0 ∷ []) ≡ figure_at s bs
-unfolding little_endian
-four_at bs s h =
-    let one : s + 1 ≡ suc s = omega arith in
-    let two : s + 2 ≡ suc (suc s) = omega arith in
-    let three : s + 3 ≡ suc (suc (suc s)) = omega arith in
-    rw (one, two, three, drop-cons bs s 0 (omega arith), drop-cons bs (suc s) 0 (omega arith), drop-cons bs (suc (suc s)) 0 (omega arith), drop-cons bs (suc (suc (suc s))) 0 (omega arith))
-    (omega arith)
-
+-- ---- four bytes, as the library writes them
 pub four_put : (l : List ℕ) (at n x : ℕ) (ys : List ℕ) → n ≡ 4 → at + 4 ≤ length l → x < 2 ^ 32 → ys ≡ to_le_bytes w32 x → put_mid at n l ys ≡ sets l at (figure_bytes x)
 four_put l at n x ys e h fits same =
     let last : x / 16777216 % 256 ≡ x / 16777216 = omega arith in
@@ -37,12 +28,6 @@ four_put l at n x ys e h fits same =
     ∙ ap (λ (rest : List ℕ). take at l ++ (figure_bytes x ++ rest)) (drop-drop 4 at l)
     ∙ sym (append_assoc (take at l) (figure_bytes x) (drop (at + 4) l))
     ∙ sym (sets-eq (figure_bytes x) l at h)
-
--- ---- every member, by the library's word
-pub each_is : (p : ℕ → Bool) (xs : List ℕ) → list_all p xs ≡ all p xs
-unfolding all
-each_is p [] = refl
-each_is p (x ∷ xs) = ap (λ (b : Bool). p x && b) (each_is p xs)
 
 -- ---- what bytes offer, by the code's tests
 module _ (bs : List ℕ) where
@@ -52,7 +37,7 @@ module _ (bs : List ℕ) where
 
   pub plain_long : length bs ≡ size → (list_all (λ m. m at_most 1) (marks_in bs) && list_all (λ u. u is 0) (unused_in bs)) ≡ is_plain bs
   unfolding is_plain
-  plain_long h = rw (eq-eqb (length bs) size h) (ap₂ ◌&&◌ (each_is (λ m. m at_most 1) (marks_in bs)) (each_is (λ u. u is 0) (unused_in bs)))
+  plain_long h = rw (eq-eqb (length bs) size h) (ap₂ ◌&&◌ (all_list (λ m. m at_most 1) (marks_in bs)) (all_list (λ u. u is 0) (unused_in bs)))
 
   pub long_plain : is_plain bs ≡ true → length bs ≡ size
   unfolding is_plain

@@ -14,6 +14,7 @@ pub const SIZE: usize = 128;
 const UNUSED: usize = 82;
 
 // The number in the four bytes from `at` on.
+#[tactic(auto, using(lists::proofs::Numbers::four_read))]
 fn figure(bytes: &[u8; SIZE], at: usize) -> u32
     requires { at + 4 ≤ size }
     ensures { result ≡ figure_at at bytes.now }
@@ -86,6 +87,7 @@ pub fn offered_by(bytes: &[u8]) -> Account
 }
 
 // Puts a figure into the four bytes from `at` on.
+#[tactic(auto, using(crate::proofs::AccountRecords::four_put))]
 fn put_figure(bytes: &mut [u8; SIZE], at: usize, x: u32)
     requires { at + 4 ≤ size }
     ensures { bytes.new ≡ sets bytes.old at (figure_bytes x) }

@@ -6,8 +6,7 @@ use lib.ListN.{get_or, take, drop}
 use Rattle.lists.specs.Numbers.{little_endian}
 use mathlib.Core.List.{[], ◌∷◌}
 use Rattle.order.specs.Orders.{order_of}
-use Rattle.lists.proofs.Numbers.{number_one}
-use Rattle.order.proofs.Orders.{four_at}
+use Rattle.lists.proofs.Numbers.{number_one, four_read}
 use Rattle.order.proofs.order_of.Goals as goal
 
 pub returns : goal.returns
@@ -21,6 +20,6 @@ returns c =
       limits = byte 16 (omega arith) i ∷ byte 0 (omega arith) i ∷ byte 1 (omega arith) i ∷ byte 2 (omega arith) i ∷ byte 3 (omega arith) i ∷ byte 4 (omega arith) i ∷ [];
       asked = byte 5 (omega arith) i;
       german = byte 6 (omega arith) i;
-      coupling = (c.from_le_bytes.ensures ∙ four_at r 8 (omega arith)) i;
-      admissible = (c.from_le_bytes-2.ensures ∙ four_at r 12 (omega arith)) i;
+      coupling = (c.from_le_bytes.ensures ∙ four_read r 8 (omega arith)) i;
+      admissible = (c.from_le_bytes-2.ensures ∙ four_read r 12 (omega arith)) i;
     }
