@@ -23,8 +23,8 @@ abbrev pub first_rule : ℕ → ℕ → ℕ
 first_rule here further = cond (here is 0) further here
 
 -- a category on a section in front of those further on: the first rule broken, and the lesser speed
-abbrev pub slower : Offer → Offer → Offer
-slower here further = offer here.number (min here.speed further.speed) (first_rule here.broken further.broken)
+abbrev pub offer_in_front : Offer → Offer → Offer
+offer_in_front here further = offer here.number (min here.speed further.speed) (first_rule here.broken further.broken)
 
 unfoldable pub in_front : List Offer → List Offer → List Offer
-in_front here further = zip_with slower here further
+in_front here further = zip_with offer_in_front here further

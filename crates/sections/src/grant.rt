@@ -2,7 +2,7 @@
 ghost use Rattle.std.specs.Prelude.{◌≡◌, []};
 ghost use Rattle.books.specs.Books.{book_of};
 ghost use Rattle.sections.specs.Routes.{book_on, granted_on, speeds_on};
-ghost use Rattle.sections.specs.Gathering.{unbroken, slower, in_front, offers_on};
+ghost use Rattle.sections.specs.Gathering.{unbroken, offer_in_front, in_front, offers_on};
 ghost use Rattle.sections.specs.Sections.{sections_of, laid_over};
 
 use crate::section::{first_section, sections_in};
@@ -34,8 +34,8 @@ fn on_no_section(book: Book) -> [Offer; 6]
 }
 
 // A category on a section in front of those further on: the first rule broken, and the lesser speed.
-fn slower(here: Offer, further: Offer) -> Offer
-    ensures { result ≡ slower here further }
+fn offer_in_front(here: Offer, further: Offer) -> Offer
+    ensures { result ≡ offer_in_front here further }
 {
     Offer {
         number: here.number,
@@ -51,7 +51,7 @@ fn slower(here: Offer, further: Offer) -> Offer
 fn in_front(here: [Offer; 6], further: [Offer; 6]) -> [Offer; 6]
     ensures { result ≡ in_front here further }
 {
-    array::from_fn(|i| slower(here[i], further[i]))
+    array::from_fn(|i| offer_in_front(here[i], further[i]))
 }
 
 // From the last section to the first, so that the first rule broken is the one that stays.

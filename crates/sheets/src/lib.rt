@@ -22,7 +22,7 @@ const HEAD: usize = 10;
 
 const TAIL: usize = 23;
 
-// The bytes of a sheet.
+// The bytes of a sheet. A match: a trait of two books for a number would be no plainer.
 pub fn length_of(book: Book) -> usize
     ensures { result ≡ sheet_length book }
 {
@@ -35,7 +35,7 @@ pub fn length_of(book: Book) -> usize
 #[derive(Clone, Copy)]
 pub struct Sheet {
     pub asked: u8,
-    // the first common rule broken, or 0
+    // the first common rule broken, or 0: a number, since figures_of gives byte 3 as it is written
     pub common: u8,
     pub decision: Decision,
     pub dloads: u8,
@@ -57,7 +57,7 @@ fn margin_bytes(c: Category, f: Facts, o: Order) -> [u8; 3]
     margin::three_bytes(margin::whole_tonnes(margin_for(c, f, o)))
 }
 
-// The common rules are the first that any cross-border category is asked, and their numbers go up to 23; the domestic book has none.
+// The common rules are the first that any cross-border category is asked, and their numbers go up to 23; the domestic book has none. A match as above.
 fn common_of(book: Book, first: u8) -> u8
     ensures { result ≡ common_by book first }
 {
@@ -95,10 +95,10 @@ impl Sheet {
         ensures { result ≡ head_bytes self }
     {
         let [x1, x2, x3, x4, x5, x6] = self.decision.offers;
-        let (granted, speed) = match self.decision.granted {
-            Some(best) => (best.number, best.speed),
-            None => (0, 0),
-        };
+        let (granted, speed) = self
+            .decision
+            .granted
+            .map_or((0, 0), |best| (best.number, best.speed));
         [
             self.asked,
             granted,
@@ -162,7 +162,7 @@ fn lay(head: [u8; HEAD], tail: [u8; TAIL], length: usize) -> [u8; MOST]
     line
 }
 
-// The sheet by the order's book: 32 bytes and a 0, or 33.
+// The sheet by the order's book: 32 bytes and a 0, or 33. Facts and order are two, for on a route the same facts meet each section's order.
 #[tactic(auto, using(crate::proofs::Sheets::laid_sheet, crate::proofs::Sheets::length_within))]
 pub fn sheet_of(f: Facts, o: Order) -> [u8; MOST]
     ensures { result ≡ in_most (sheet_of (book_of o.book) f o) }
