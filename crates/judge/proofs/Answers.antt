@@ -3,7 +3,7 @@ use mathlib.Core.Path.{◌≡◌, refl, sym, ap, ◌∙◌}
 use mathlib.Core.Bool.{true, false, false≢true}
 use mathlib.Core.List.{List, ◌++◌}
 use Rattle.std.specs.Prelude.{Result, Ok, Err, is_ok, ⊤}
-use Rattle.std.specs.Result.{result_and, result_or}
+use Rattle.std.specs.Result.{IsErrAnd, result_and, result_or}
 use Rattle.lists.specs.Words.{Every, Case}
 use Rattle.lists.specs.Refusals.{answered}
 use Rattle.lists.proofs.Refusals.{none_refuses, answered_append}
@@ -11,6 +11,11 @@ use Rattle.lists.proofs.Refusals.{none_refuses, answered_append}
 pub ok_is : {E : Type 0} (a : Result ⊤ E) → is_ok a ≡ true → a ≡ Ok tt
 ok_is (Ok x) h = refl
 ok_is (Err e) h = absurd (false≢true h)
+
+-- what a `?` hands on
+pub exits : {T E : Type 0} (r : Result T E) (e : E) {s : Result T E} → IsErrAnd r (λ d. d ≡ e) → s ≡ Err e → r ≡ s
+exits (Ok x) e p h = absurd p
+exits (Err d) e p h = ap Err p ∙ sym h
 
 module _ {A T E : Type 0} where
   -- the first refusal, and what is asked behind an answer that is Ok

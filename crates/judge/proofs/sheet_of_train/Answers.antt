@@ -4,7 +4,6 @@ use mathlib.Core.Path.{sym, ap, ◌∙◌, subst}
 use mathlib.Core.List.{◌++◌}
 use lib.ListN.{length, drop}
 use Rattle.std.specs.Prelude.{Result, ⊤}
-use Rattle.std.proofs.lemmas.Result.{err_from_is_err_and}
 use Rattle.record.specs.Vehicles.{vehicles}
 use Rattle.facts.specs.Facts.{facts_of}
 use Rattle.order.specs.Orders.{order_of}
@@ -12,16 +11,16 @@ use Rattle.order.specs.declared.Order.{Order}
 use Rattle.sheets.specs.Sheets.{sheet_length}
 use Rattle.judge.specs.Answers.{sheet_for, written}
 use Rattle.judge.specs.declared.Refusal.{Refusal}
+use Rattle.judge.proofs.Answers.{exits}
 use Rattle.judge.proofs.Sheets.{train_told}
 use Rattle.judge.proofs.sheet_of_train.Goals as goal
 
 pub returns-in_err-f : goal.returns-in_err-f
 returns-in_err-f c =
     let a = c.args in
-    let p = err_from_is_err_and c.from_residual.result c.from_residual.ensures.1 in
     let refused = (train_told a.vehicles.now a.order.now a.sheet.now _ c.lent_refusal-lent.ensures _ c.train_facts.ensures).refused _ c.in_err-f.was in
     record {
-      value = rw (p.1, p.2) (sym refused);
+      value = exits _ _ c.from_residual.ensures.1 refused;
       sheet_after = sym (ap (λ (x : Result ⊤ Refusal). written x (sheet_for (facts_of (vehicles a.vehicles.now)) (order_of a.order.now)) a.sheet.now) refused);
     }
 

@@ -4,9 +4,8 @@ use mathlib.Core.Path.{◌≡◌, sym, ap, ap₂, ◌∙◌}
 use mathlib.Core.List.{List}
 use Prim.Native.Nat.{ℕ, ◌*◌}
 use lib.ListN.{drop}
-use Rattle.std.specs.Prelude.{Ok, is_ok}
+use Rattle.std.specs.Prelude.{Ok, Err, is_ok}
 use Rattle.std.specs.Result.{result_and}
-use Rattle.std.proofs.lemmas.Result.{err_from_is_err_and}
 use Rattle.lists.specs.Refusals.{answered}
 use Rattle.record.specs.Vehicles.{vehicles}
 use Rattle.account.specs.Accounts.{account_of}
@@ -19,7 +18,7 @@ use Rattle.judge.specs.Judging.{train_judged, GoodRecords}
 use Rattle.judge.specs.declared.Refusal.TheVariants.{WorkingBehind}
 use Rattle.account.specs.declared.Account.{Account}
 use Rattle.facts.proofs.Demands.{facts_held}
-use Rattle.judge.proofs.Answers.{stops, passes, or_err, or_ok}
+use Rattle.judge.proofs.Answers.{exits, stops, passes, or_err, or_ok}
 use Rattle.judge.proofs.Trains.{parted_le, front_fields, portion_at, account_at, none_works, refused_rear, works_behind, sizes_left, front_good, rear_within, facts_are, counted_good, train_steps, train_late}
 use Rattle.judge.proofs.train_facts.Goals as goal
 use Rattle.judge.proofs.train_facts.Goals.{After-account_of-hauled, After-or, After-size_refusal}
@@ -70,22 +69,18 @@ field_refusal_in-requires c = λ ok.
 
 pub returns-in_err-count_refusal : goal.returns-in_err-count_refusal
 returns-in_err-count_refusal c =
-    let p = err_from_is_err_and c.from_residual.result c.from_residual.ensures.1 in
-    rw (p.1, p.2) (sym (train_steps c.args.vehicles.now c.args.lent ∙ stops _ (sym c.count_refusal.ensures ∙ c.in_err-count_refusal.was)))
+    exits _ _ c.from_residual.ensures.1 (train_steps c.args.vehicles.now c.args.lent ∙ stops _ (sym c.count_refusal.ensures ∙ c.in_err-count_refusal.was))
 
 pub returns-in_err-field_refusal_in : goal.returns-in_err-field_refusal_in
 returns-in_err-field_refusal_in c =
-    let p = err_from_is_err_and c.from_residual-in_err-field_refusal_in.result c.from_residual-in_err-field_refusal_in.ensures.1 in
-    rw (p.1, p.2) (sym (train_steps c.args.vehicles.now c.args.lent ∙ passes _ (sym c.count_refusal.ensures ∙ c.in_ok-count_refusal.was) ∙ stops _ (sym c.field_refusal_in.ensures ∙ c.in_err-field_refusal_in.was)))
+    exits _ _ c.from_residual-in_err-field_refusal_in.ensures.1 (train_steps c.args.vehicles.now c.args.lent ∙ passes _ (sym c.count_refusal.ensures ∙ c.in_ok-count_refusal.was) ∙ stops _ (sym c.field_refusal_in.ensures ∙ c.in_err-field_refusal_in.was))
 
 pub returns-in_err-lent : goal.returns-in_err-lent
 returns-in_err-lent c =
-    let p = err_from_is_err_and c.from_residual-in_err-lent.result c.from_residual-in_err-lent.ensures.1 in
-    rw (p.1, p.2)
-    (sym (train_steps c.args.vehicles.now c.args.lent
+    exits _ _ c.from_residual-in_err-lent.ensures.1 (train_steps c.args.vehicles.now c.args.lent
     ∙ passes _ (sym c.count_refusal.ensures ∙ c.in_ok-count_refusal.was)
     ∙ passes _ (sym c.field_refusal_in.ensures ∙ c.in_ok-field_refusal_in.was)
-    ∙ stops _ c.in_err-lent.was))
+    ∙ stops _ c.in_err-lent.was)
 
 pub returns-then-working-eq0 : goal.returns-then-working-eq0
 returns-then-working-eq0 c =
@@ -99,16 +94,14 @@ returns-in_err-hauled c =
     let n = c.working_count-working.result in
     let count = c.working_count-working.ensures in
     let e = (goal.at.returns-in_err-hauled c).After-or in
-    let p = err_from_is_err_and c.from_residual-in_err-hauled.result c.from_residual-in_err-hauled.ensures.1 in
     let r = or_err c.account_of-hauled.result (sym c.or.ensures ∙ c.in_err-hauled.was) in
     let behind = refused_rear bs n count (records_at e) (ap is_ok (sym (rear_at (goal.at.returns-in_err-hauled c).After-account_of-hauled)) ∙ r.0) in
-    rw (p.1, p.2, r.1) (sym (late_at e ∙ stops _ (works_behind bs n count (records_at e) c.if-working-eq0.false behind)))
+    exits _ _ c.from_residual-in_err-hauled.ensures.1 (late_at e ∙ stops _ (works_behind bs n count (records_at e) c.if-working-eq0.false behind) ∙ ap Err (sym r.1))
 
 pub returns-in_err-size_refusal : goal.returns-in_err-size_refusal
 returns-in_err-size_refusal c =
     let e = (goal.at.returns-in_err-size_refusal c).After-or in
-    let p = err_from_is_err_and c.from_residual-in_err-size_refusal.result c.from_residual-in_err-size_refusal.ensures.1 in
-    rw (p.1, p.2) (sym (late_at e ∙ stops _ (sized_at (goal.at.returns-in_err-size_refusal c).After-size_refusal (records_at e) ∙ c.in_err-size_refusal.was)))
+    exits _ _ c.from_residual-in_err-size_refusal.ensures.1 (late_at e ∙ stops _ (sized_at (goal.at.returns-in_err-size_refusal c).After-size_refusal (records_at e) ∙ c.in_err-size_refusal.was))
 
 pub returns : goal.returns
 returns c =

@@ -1,11 +1,11 @@
 -- `route::route_of_account` meets its contract: what is judged is shown. Assumes nothing.
 use mathlib.Core.Path.{sym, ap, ◌∙◌}
 use Rattle.std.specs.Prelude.{Result, Ok, ⊤}
-use Rattle.std.proofs.lemmas.Result.{err_from_is_err_and}
 use Rattle.record.specs.Vehicles.{vehicles}
 use Rattle.facts.specs.Facts.{facts_beside}
 use Rattle.judge.specs.Answers.{written}
 use Rattle.judge.specs.declared.Refusal.{Refusal}
+use Rattle.judge.proofs.Answers.{exits}
 use Rattle.route.specs.Answers.{granted_for, speeds_for, route_by}
 use Rattle.route.proofs.Routes.{account_told}
 use Rattle.route.proofs.route_of_account.Goals as goal
@@ -14,10 +14,9 @@ pub returns-in_err-f : goal.returns-in_err-f
 returns-in_err-f c =
     let a = c.args in
     let f = facts_beside (vehicles a.engines.now) a.hauled in
-    let p = err_from_is_err_and c.from_residual.result c.from_residual.ensures.1 in
     let refused = (account_told a.engines.now a.orders.now a.speeds.now _ c.section_refusal-lent.ensures _ a.hauled c.account_facts.ensures).refused _ c.in_err-f.was in
     record {
-      value = rw (p.1, p.2) (sym (ap (λ (x : Result ⊤ Refusal). route_by x (granted_for f a.orders.now)) refused));
+      value = exits _ _ c.from_residual.ensures.1 (ap (λ (x : Result ⊤ Refusal). route_by x (granted_for f a.orders.now)) refused);
       speeds_after = sym (ap (λ (x : Result ⊤ Refusal). written x (speeds_for f a.orders.now) a.speeds.now) refused);
     }
 
