@@ -13,10 +13,11 @@ use Rattle.order.specs.declared.Order.{Order}
 use Rattle.order.proofs.Demands.{read_good}
 use Rattle.sheets.specs.Sheets.{sheet_length}
 use Rattle.facts.specs.Facts.{facts_of}
-use Rattle.judge.specs.Answers.{number_of, place_of, is_done, order_refusals, train_refusals, train_answer, train_sheet, sheet_for, written}
-use Rattle.judge.specs.declared.Answer.{Answer}
-use Rattle.judge.specs.declared.Answer.TheVariants.{NotWhole}
-use Rattle.judge.proofs.Demands.{sheet_bytes_lem, length_most, train_lent}
+use Rattle.judge.specs.Answers.{answer_number, answer_place, order_refusals, train_refusals, train_answer, train_sheet, sheet_for, written}
+use Rattle.judge.specs.declared.Refusal.{Refusal}
+use Rattle.judge.specs.declared.Refusal.TheVariants.{NotWhole}
+use Rattle.std.specs.Prelude.{Result, Err, is_ok, ⊤}
+use Rattle.judge.proofs.Demands.{sheet_bytes_lem, length_most, train_lent, done_number}
 use Rattle.bench.specs.Texts.{glyph_of, decimal, field, last_field}
 use Rattle.bench.specs.Lines.{order_part, vehicle_part, answer_of, sheet_in, answer_fields, line_by, line_of}
 use Rattle.bench.proofs.Texts.{field_length, last_length, last_shown}
@@ -27,7 +28,7 @@ vehicles_none input h =
     let e : length (take 4848 input) ≤ 24 = omega (arith, length-take 4848 input) in
     drop_of_length-le (take 4848 input) e
 
-pub short_refused : (input : List ℕ) → length input ≤ 24 → answer_of input ≡ NotWhole
+pub short_refused : (input : List ℕ) → length input ≤ 24 → answer_of input ≡ Err NotWhole
 unfolding answer_of train_refusals
 short_refused input h = rw (vehicles_none input h) refl
 
@@ -50,10 +51,10 @@ pub line_bound : (input : List ℕ) → length (line_of input) ≤ 109
 unfolding line_of sheet_in
 line_bound input =
     let o = order_of (order_part input) in
-    line_length (number_of (answer_of input)) (place_of (answer_of input)) (sheet_in input) (omega (arith, sheet_bytes_lem (facts_of (vehicles (vehicle_part input))) o, length_most o.book))
+    line_length (answer_number (answer_of input)) (answer_place (answer_of input)) (sheet_in input) (omega (arith, sheet_bytes_lem (facts_of (vehicles (vehicle_part input))) o, length_most o.book))
 
 -- ---- what the judging library answers, and writes into a blank sheet, makes the line of the input
-module _ (input vs os blank : List ℕ) {answer : Answer} {sheet : List ℕ} (e : length blank ≡ 33) (v : vs ≡ vehicle_part input) (o : os ≡ order_part input)
+module _ (input vs os blank : List ℕ) {answer : Result ⊤ Refusal} {sheet : List ℕ} (e : length blank ≡ 33) (v : vs ≡ vehicle_part input) (o : os ≡ order_part input)
     (a : answer ≡ train_answer vs os (length blank)) (s : sheet ≡ train_sheet vs os blank) where
   answered : answer ≡ answer_of input
   unfolding answer_of
@@ -64,20 +65,19 @@ module _ (input vs os blank : List ℕ) {answer : Answer} {sheet : List ℕ} (e 
   left = s ∙ (λ i. written (train_answer (v i) (o i) (e i)) (sheet_for (facts_of (vehicles (v i))) (order_of (o i))) blank)
 
   -- where it is done the order is good, so that it is read as it stands
-  counted : is_done (answer_of input) ≡ true → length (sheet_in input) ≡ sheet_length (order_read os).book
+  counted : is_ok (answer_of input) ≡ true → length (sheet_in input) ≡ sheet_length (order_read os).book
   unfolding answer_of sheet_in train_refusals
   counted done =
       let order = order_part input in
-      let good = not-false (good_order order) (train_lent (vehicle_part input) (order_refusals order 33) (refl, (refl, tt)) done).0 in
+      let good = not-false (good_order order) (train_lent (vehicle_part input) (order_refusals order 33) done).0 in
       sheet_bytes_lem (facts_of (vehicles (vehicle_part input))) (order_of order)
       ∙ ap (λ (x : Order). sheet_length x.book) (sym (ap order_read o ∙ read_good order good))
 
-  pub line_answer : {number place n : ℕ} {shown : List ℕ} → number ≡ number_of answer → place ≡ place_of answer → n ≡ sheet_length (order_read os).book → shown ≡ take n sheet
-      → line_by number place shown ≡ line_of input
+  pub line_answer : {n : ℕ} {shown : List ℕ} → n ≡ sheet_length (order_read os).book → shown ≡ take n sheet → line_by (answer_number answer) (answer_place answer) shown ≡ line_of input
   unfolding line_by line_of
-  line_answer n p l t =
-      let number = n ∙ ap number_of answered in
-      let place = p ∙ ap place_of answered in
+  line_answer l t =
       let shown = t ∙ (λ i. take (l i) (left i)) in
-      (λ i. line_by (number i) (place i) (shown i))
-      ∙ ap (λ (t : List ℕ). answer_fields (number_of (answer_of input)) (place_of (answer_of input)) ++ t) (last_shown (is_done (answer_of input)) (sheet_in input) blank (sheet_length (order_read os).book) counted)
+      let r = answer_of input in
+      let last : last_field (answer_number r is 0) (take (sheet_length (order_read os).book) (written r (sheet_in input) blank)) ≡ last_field (answer_number r is 0) (sheet_in input) =
+      rw (done_number r) (last_shown (is_ok r) (sheet_in input) blank (sheet_length (order_read os).book) counted) in
+      (λ i. line_by (answer_number (answered i)) (answer_place (answered i)) (shown i)) ∙ ap (λ (t : List ℕ). answer_fields (answer_number r) (answer_place r) ++ t) last

@@ -60,6 +60,10 @@ hex_more bs i h = rw (add-one, take-suc bs i 0 h) (hex_append (take i bs) (get_o
 pub text_behind : (l a b : List ℕ) {m k t : List ℕ} → m ≡ l ++ a → k ≡ m ++ b → a ++ b ≡ t → k ≡ l ++ t
 text_behind l a b e f g = f ∙ ap (λ (r : List ℕ). r ++ b) e ∙ append_assoc l a b ∙ ap (λ (r : List ℕ). l ++ r) g
 
+-- and of a line that was empty
+pub text_begun : (a b : List ℕ) {l m k t : List ℕ} → l ≡ [] → m ≡ l ++ a → k ≡ m ++ b → a ++ b ≡ t → k ≡ t
+text_begun a b z e f g = f ∙ ap (λ (r : List ℕ). r ++ b) (e ∙ ap (λ (r : List ℕ). r ++ a) z) ∙ g
+
 pub length_behind : (l a : List ℕ) {m : List ℕ} → m ≡ l ++ a → length m ≡ length l + length a
 length_behind l a e = ap length e ∙ length-append l a
 

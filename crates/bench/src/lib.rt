@@ -3,10 +3,13 @@
 
 ghost use Rattle.std.specs.Prelude.{◌≡◌, ◌++◌, ◌+◌, ◌≤◌, length, drop};
 ghost use Rattle.arrayvec.specs.ArrayVec.{array_vec_len};
+ghost use Rattle.std.specs.Result.{result_unwrap_or};
+ghost use Rattle.judge.specs.Answers.{answer_number, answer_place};
 ghost use Rattle.bench.specs.Lines.{answer_fields, line_by, line_of};
 ghost use Rattle.bench.specs.Routes.{route_line_by, route_line_of};
 
 use answer::{number_of, place_of};
+use judge::Refusal;
 use order::read_order;
 use part::{behind, first, front};
 use sheets::{MOST, length_of};
@@ -23,13 +26,13 @@ fn put_answer(number: usize, place: usize, line: &mut Line)
     text::put_field(place, line);
 }
 
-fn line_by(number: usize, place: usize, sheet: &[u8]) -> Line
+fn line_by(answer: Result<(), Refusal>, sheet: &[u8]) -> Line
     requires { length sheet.now ≤ 33 }
-    ensures { result.items ≡ line_by number place sheet.now }
+    ensures { result.items ≡ line_by (answer_number answer) (answer_place answer) sheet.now }
 {
     let mut line = Line::new();
-    put_answer(number, place, &mut line);
-    text::put_last(number == 0, sheet, &mut line);
+    put_answer(number_of(answer), place_of(answer), &mut line);
+    text::put_last(answer.is_ok(), sheet, &mut line);
     line
 }
 
@@ -56,18 +59,18 @@ pub fn line_of(input: &[u8], line: &mut [u8; 128]) -> usize
     let o = read_order(order);
     let book = o.book;
     let shown = front(&sheet, length_of(book));
-    let made = line_by(number_of(answer), place_of(answer), shown);
+    let made = line_by(answer, shown);
     write_front(&made, line)
 }
 
-fn route_line_by(number: usize, place: usize, category: usize, speeds: &[u8]) -> Line
+fn route_line_by(route: Result<u8, Refusal>, speeds: &[u8]) -> Line
     requires { length speeds.now ≤ 64 }
-    ensures { result.items ≡ route_line_by number place category speeds.now }
+    ensures { result.items ≡ route_line_by (answer_number route) (answer_place route) (result_unwrap_or route 0) speeds.now }
 {
     let mut line = Line::new();
-    put_answer(number, place, &mut line);
-    text::put_field(category, &mut line);
-    text::put_last(number == 0, speeds, &mut line);
+    put_answer(number_of(route), place_of(route), &mut line);
+    text::put_field(usize::from(route.unwrap_or(0)), &mut line);
+    text::put_last(route.is_ok(), speeds, &mut line);
     line
 }
 
@@ -80,14 +83,8 @@ pub fn route_line_of(input: &[u8], line: &mut [u8; 256]) -> usize
     let orders = front(behind(input, 1), 24 * n);
     let vehicles = front(behind(input, 1 + 24 * n), 4824);
     let mut speeds = [0u8; 64];
-    let given = route::route_of_train(vehicles, orders, &mut speeds);
-    let answer = given.answer;
+    let route = route::route_of_train(vehicles, orders, &mut speeds);
     let shown = front(&speeds, orders.len() / 24);
-    let made = route_line_by(
-        number_of(answer),
-        place_of(answer),
-        usize::from(given.granted),
-        shown,
-    );
+    let made = route_line_by(route, shown);
     write_front(&made, line)
 }

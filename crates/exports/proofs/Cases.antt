@@ -1,8 +1,6 @@
 -- Answers as one number and the room of an account in a single table, with one proof about the definitions. Assumes nothing.
 use mathlib.Core.Path.{◌≡◌, refl}
-use Rattle.exports.specs.Lent.{lent_number}
 use Rattle.exports.specs.Cases.{answered, expected}
 
 pub cases : answered ≡ expected
-unfolding lent_number
 cases = refl

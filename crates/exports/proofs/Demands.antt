@@ -1,73 +1,67 @@
 -- What a program that links the static library may rely on: the theorems, over the definitions of specs/. Assumes nothing.
-use Prim.Native.Nat.{ℕ, ◌/◌, ◌%◌, ◌≤◌, ◌<◌}
-use mathlib.Core.Path.{◌≡◌, refl, sym, ap, ◌∙◌}
-use mathlib.Core.Logic.{◌⊎◌}
-use mathlib.Core.Bool.{true, false, not, ◌&&◌, ◌||◌}
-use mathlib.Core.List.{List, [], ◌++◌}
-use native.Mathlib.Omega.{arith}
-use lib.ListN.{length, drop}
+use Rattle.std.proofs.Common.{ℕ, ◌/◌, ◌%◌, ◌≤◌, ◌<◌, ◌≡◌, ◌⊎◌, refl, ap, true, false, not, ◌&&◌, ◌||◌, List, [], ◌++◌, length, drop, arith, Result, Ok, Err}
+use Rattle.std.specs.Result.{result_unwrap_or}
+use borrow.Author.Tests.{lt-ltb, le-ltb}
 use Rattle.lists.specs.Words.{◌is◌, all}
 use Rattle.record.specs.Records.{is_whole}
 use Rattle.record.specs.Vehicles.{vehicles, is_working}
 use Rattle.account.specs.Answers as account
+use Rattle.account.specs.Answers.{Answer}
 use Rattle.account.specs.Accounts.{account_of}
 use Rattle.account.specs.Portions.{accounted, joined}
 use Rattle.account.proofs.Demands.{any_grouping_done}
 use Rattle.account.specs.Groupings.{Grouping, uncut, BetweenRecords, GoodPortion, NoneRefused}
-use Rattle.account.specs.declared.Accounted.{Accounted}
-use Rattle.account.specs.declared.Answer.TheVariants.{Done}
+use Rattle.account.specs.declared.Account.{Account}
 use Rattle.facts.specs.Engines.{GoodEngines}
 use Rattle.speed.specs.Speed.{holds_the_speed}
-use Rattle.judge.specs.Answers.{number_of, place_of, train_answer, train_sheet, account_answer, account_sheet}
-use Rattle.judge.specs.declared.Answer.{Answer}
+use Rattle.judge.specs.Answers.{answer_number, answer_place, place_of, train_answer, train_sheet, account_answer, account_sheet}
+use Rattle.judge.specs.declared.Refusal.{Refusal}
 use Rattle.route.specs.Answers.{train_route, train_speeds, account_route, account_speeds}
-use Rattle.route.specs.declared.Route.{Route}
 use Rattle.travel.specs.AccountRecords.{size, is_account, offered, record_of}
-use Rattle.exports.specs.Lent.{sheet_number, route_number, account_number, lent_number, lent_account, lent_vehicle, carried, AllAnswered}
-use Rattle.exports.proofs.Lent.{number_small, train_route_place, account_route_place, done_number, lent_not_done, lent_refused, lent_short, lent_done, lent_or_none}
+use Rattle.exports.specs.Lent.{IsPlaced, sheet_number, route_number, account_number, lent_number, lent_account, lent_vehicle, written_of, carried, AllAnswered}
+use Rattle.exports.proofs.Lent.{answer_small, account_refused, train_route_placed, account_route_placed, lent_or_none}
 use Rattle.exports.proofs.Carried.{join_refused_seven, join_other_number, sheet_refused_seven, route_refused_seven, portion_back, join_back, grouping_back, grouping_answered, grouping_account, grouping_sheet, grouping_route}
 
 -- ---- the answer as one number: its two parts are had from it
-pub number_back : (answer : Answer) → sheet_number answer % 256 ≡ number_of answer
-number_back answer = omega (arith, number_small answer)
+pub number_back : {T : Type 0} (answer : Result T Refusal) → sheet_number answer % 256 ≡ answer_number answer
+number_back answer = omega (arith, answer_small answer)
 
-pub place_back : (answer : Answer) → sheet_number answer / 256 ≡ place_of answer
-place_back answer = omega (arith, number_small answer)
+pub place_back : {T : Type 0} (answer : Result T Refusal) → sheet_number answer / 256 ≡ answer_place answer
+place_back answer = omega (arith, answer_small answer)
 
 -- of a route its three, the place being that of one of 200 records or 64 sections
-pub route_number_back : (r : Route) → route_number r % 256 ≡ number_of r.answer
-route_number_back r = omega (arith, number_small r.answer)
+pub route_number_back : (r : Result ℕ Refusal) → route_number r % 256 ≡ answer_number r
+route_number_back r = omega (arith, answer_small r)
 
-module _ (r : Route) (few : place_of r.answer ≤ 200) where
-  pub route_place_back : route_number r / 256 % 16777216 ≡ place_of r.answer
-  route_place_back = omega (arith, few, number_small r.answer)
+module _ (r : Result ℕ Refusal) (few : answer_place r ≤ 200) where
+  pub route_place_back : route_number r / 256 % 16777216 ≡ answer_place r
+  route_place_back = omega (arith, few, answer_small r)
 
-  pub category_back : route_number r / 4294967296 ≡ r.granted
-  category_back = omega (arith, few, number_small r.answer)
+  pub category_back : route_number r / 4294967296 ≡ result_unwrap_or r 0
+  category_back = omega (arith, few, answer_small r)
 
-pub train_route_few : (bs orders : List ℕ) (room : ℕ) → place_of (train_route bs orders room).answer ≤ 200
-train_route_few bs orders room = train_route_place (train_route bs orders room) bs orders room refl
+place_few : {T : Type 0} (r : Result T Refusal) → IsPlaced place_of r → answer_place r ≤ 200
+place_few (Ok x) h = omega arith
+place_few (Err refusal) h = h
 
-pub account_route_few : (bs hauled orders : List ℕ) (room : ℕ) → place_of (account_route bs (offered hauled) orders room).answer ≤ 200
-account_route_few bs hauled orders room = account_route_place (account_route bs (offered hauled) orders room) bs (offered hauled) orders room refl
+pub train_route_few : (bs orders : List ℕ) (room : ℕ) → answer_place (train_route bs orders room) ≤ 200
+train_route_few bs orders room = place_few (train_route bs orders room) (train_route_placed bs orders room)
+
+pub account_route_few : (bs hauled orders : List ℕ) (room : ℕ) → answer_place (account_route bs (offered hauled) orders room) ≤ 200
+account_route_few bs hauled orders room = place_few (account_route bs (offered hauled) orders room) (account_route_placed bs (offered hauled) orders room)
 
 -- ---- an account that is lent: its own refusals first, then 5, and a refused call writes nothing
-module _ (r : Accounted) (room : List ℕ) where
-  pub own_refusals_first : (account.number_of r.answer ≡ 0 → ⊥)
-      → (lent_number r (length room) ≡ account_number r.answer) × (lent_account r room ≡ room)
-  own_refusals_first h =
-      let l = lent_refused r room _ refl (lent_not_done r h) in
-      (sym l.0, sym l.1)
+pub own_refusals_first : (r : Answer) (room : List ℕ) → (account.answer_number r ≡ 0 → ⊥) → (lent_number r (length room) ≡ account_number r) × (lent_account r room ≡ room)
+own_refusals_first (Ok given) room h = absurd (h refl)
+own_refusals_first (Err refusal) room h = (refl, refl)
 
-  pub then_five : account.number_of r.answer ≡ 0 → length room < size → (lent_number r (length room) ≡ 5) × (lent_account r room ≡ room)
-  then_five e h =
-      let l = lent_short r room _ refl (done_number r.answer e) h in
-      (sym l.0, sym l.1)
+pub then_five : (r : Answer) (room : List ℕ) → account.answer_number r ≡ 0 → length room < size → (lent_number r (length room) ≡ 5) × (lent_account r room ≡ room)
+then_five (Ok given) room e h = let t = lt-ltb (length room) size h in (rw t refl, rw t refl)
+then_five (Err refusal) room e h = absurd (account_refused refusal e)
 
-  pub done_writes : account.number_of r.answer ≡ 0 → size ≤ length room → (lent_number r (length room) ≡ 0) × (lent_account r room ≡ record_of r.account ++ drop size room)
-  done_writes e h =
-      let l = lent_done r room _ refl (done_number r.answer e) h in
-      (sym l.0, sym l.1)
+pub done_writes : (r : Answer) (room : List ℕ) → account.answer_number r ≡ 0 → size ≤ length room → (lent_number r (length room) ≡ 0) × (lent_account r room ≡ written_of r ++ drop size room)
+done_writes (Ok given) room e h = let t = le-ltb (length room) size h in (rw t refl, rw t refl)
+done_writes (Err refusal) room e h = absurd (account_refused refusal e)
 
 -- ---- bytes that are no account: 7 in its place, and nothing is written
 pub join_seven : (left right room : List ℕ) → (is_account left && is_account right) ≡ false
@@ -85,21 +79,20 @@ sheet_seven engines hauled order whole bad = sheet_refused_seven engines hauled 
 -- so of a route, which then gives category 0
 pub route_seven : (engines hauled orders : List ℕ) → (length engines is 0 || not (is_whole engines)) ≡ false → is_account hauled ≡ false → (speeds : List ℕ)
     → (route_number (account_route engines (offered hauled) orders (length speeds)) ≡ 7)
-    × ((account_route engines (offered hauled) orders (length speeds)).granted ≡ 0)
+    × (result_unwrap_or (account_route engines (offered hauled) orders (length speeds)) 0 ≡ 0)
     × (account_speeds engines (offered hauled) orders speeds ≡ speeds)
 route_seven engines hauled orders whole bad = route_refused_seven engines hauled whole bad orders
 
 -- ---- what is written reads back
-pub written_portion_back : (bs : List ℕ) → (accounted bs).answer ≡ Done → offered (record_of (accounted bs).account) ≡ (accounted bs).account
+pub written_portion_back : (bs : List ℕ) (a : Account) → accounted bs ≡ Ok a → offered (record_of a) ≡ a
 written_portion_back = portion_back
 
-pub written_join_back : (left right : List ℕ) → (joined (offered left) (offered right)).answer ≡ Done
-    → offered (record_of (joined (offered left) (offered right)).account) ≡ (joined (offered left) (offered right)).account
+pub written_join_back : (left right : List ℕ) (a : Account) → joined (offered left) (offered right) ≡ Ok a → offered (record_of a) ≡ a
 written_join_back = join_back
 
 -- ---- demand 3 through the bytes: portions cut between records, no call refused
 module _ (g : Grouping ℕ) (cut : BetweenRecords g) (none : NoneRefused g) where
-  pub carried_account : offered (carried g) ≡ (accounted (uncut g)).account
+  pub carried_account : accounted (uncut g) ≡ Ok (offered (carried g))
   carried_account = grouping_account g cut none
 
   pub sheet_from_bytes : (engines order sheet : List ℕ) → GoodEngines engines → all is_working (vehicles engines) ≡ true
@@ -117,7 +110,8 @@ module _ (g : Grouping ℕ) (cut : BetweenRecords g) (good : GoodPortion (uncut 
   pub carried_from_portions : (room : ℕ) → size ≤ room → AllAnswered g room × (offered (carried g) ≡ account_of (vehicles (uncut g)))
   carried_from_portions room fits =
       let d = any_grouping_done g cut good in
-      (grouping_answered g d.0 room fits, grouping_back g d.0 ∙ ap (λ (r : Accounted). r.account) d.1)
+      let h = grouping_back g d.0 in
+      (grouping_answered g d.0 room fits, cc)
 
   pub sheet_from_carried : (engines order sheet : List ℕ) → GoodEngines engines → all is_working (vehicles engines) ≡ true
       → (sheet_number (account_answer engines (offered (carried g)) order (length sheet)) ≡ sheet_number (train_answer (engines ++ uncut g) order (length sheet)))

@@ -1,44 +1,52 @@
 -- What a C function answers and leaves in the buffer that it is lent.
-use Rattle.std.specs.Prelude.{ℕ, ◌+◌, ◌*◌, ◌≡◌, ◌&&◌, cond, List, [], ◌++◌, length, drop}
-use Rattle.lists.specs.Words.{◌is◌, ◌above◌}
+use Rattle.std.specs.Prelude.{ℕ, ◌+◌, ◌*◌, ◌≤◌, ◌≡◌, cond, List, [], ◌++◌, length, drop, Result, Ok, Err, IfErr}
+use Rattle.std.specs.Result.{result_unwrap_or}
+use Rattle.lists.specs.Words.{◌above◌}
+use Rattle.account.specs.Accounts.{empty}
 use Rattle.account.specs.Answers as account
+use Rattle.account.specs.Answers.{Answer}
 use Rattle.account.specs.Portions.{accounted, joined}
 use Rattle.account.specs.Groupings.{Grouping, portion, pair}
 use Rattle.speed.specs.Speed.{holds_the_speed}
-use Rattle.account.specs.declared.Accounted.{Accounted}
-use Rattle.account.specs.declared.Answer as AccountAnswer
 use Rattle.judge.specs.Answers as judge
-use Rattle.judge.specs.declared.Answer.{Answer}
-use Rattle.route.specs.declared.Route.{Route}
+use Rattle.judge.specs.declared.Refusal.{Refusal}
 use Rattle.travel.specs.AccountRecords.{size, offered, record_of}
+
+-- a refusal's place is that of one of 200 records, or of 64 sections
+abbrev pub IsPlaced : {T E : Type 0} → (E → ℕ) → Result T E → Type 0
+IsPlaced place answer = IfErr answer (λ refusal. place refusal ≤ 200)
 
 -- an answer as one number
 abbrev pub one_number : ℕ → ℕ → ℕ
 one_number number place = number + 256 * place
 
-abbrev pub sheet_number : Answer → ℕ
-sheet_number answer = one_number (judge.number_of answer) (judge.place_of answer)
+abbrev pub sheet_number : {T : Type 0} → Result T Refusal → ℕ
+sheet_number answer = one_number (judge.answer_number answer) (judge.answer_place answer)
 
 -- of a route, with the category granted above number and place
-abbrev pub route_number : Route → ℕ
-route_number r = sheet_number r.answer + 4294967296 * r.granted
+abbrev pub route_number : Result ℕ Refusal → ℕ
+route_number r = sheet_number r + 4294967296 * result_unwrap_or r 0
 
-abbrev pub account_number : AccountAnswer.Answer → ℕ
-account_number answer = one_number (account.number_of answer) (account.place_of answer)
+abbrev pub account_number : Answer → ℕ
+account_number answer = one_number (account.answer_number answer) (account.answer_place answer)
 
 -- of an account for a room of so many bytes: its refusals as document 01 orders them, then 5 for a room shorter than an account's bytes
-unfoldable pub lent_number : Accounted → ℕ → ℕ
-lent_number r room =
-    cond (account.number_of r.answer is 0 && size above room) 5 (account_number r.answer)
+abbrev pub lent_number : Answer → ℕ → ℕ
+lent_number (Ok given) room = cond (size above room) 5 0
+lent_number (Err refusal) room = account_number (Err refusal)
 
 -- a refused call writes nothing; a done call writes as many bytes as an account has, and no other
-unfoldable pub lent_account : Accounted → List ℕ → List ℕ
-lent_account r room = cond (lent_number r (length room) is 0) (record_of r.account ++ drop size room) room
+abbrev pub lent_account : Answer → List ℕ → List ℕ
+lent_account (Ok given) room = cond (size above length room) room (record_of given ++ drop size room)
+lent_account (Err refusal) room = room
 
--- what is written, call after call, where portions are accounted and their accounts joined as they are grouped
+-- what is written, call after call, where portions are accounted and their accounts joined as they are grouped; where a call is refused the empty account stands in
+abbrev pub written_of : Answer → List ℕ
+written_of answer = record_of (result_unwrap_or answer empty)
+
 abbrev pub carried : Grouping ℕ → List ℕ
-carried (portion bs) = record_of (accounted bs).account
-carried (pair left right) = record_of (joined (offered (carried left)) (offered (carried right))).account
+carried (portion bs) = written_of (accounted bs)
+carried (pair left right) = written_of (joined (offered (carried left)) (offered (carried right)))
 
 -- every one of these calls answers 0, with so many bytes of room for each account
 abbrev pub AllAnswered : Grouping ℕ → ℕ → Type 0

@@ -1,36 +1,10 @@
 // An answer as one number; an account, put into the room that a caller lends for it.
-ghost use Rattle.std.specs.Prelude.{◌≡◌, ◌<◌, ◌≤◌, ◌++◌, length, drop};
-ghost use Rattle.account.specs.Answers.{number_of, place_of};
-ghost use Rattle.exports.specs.Lent.{one_number, account_number, lent_number, lent_account};
+ghost use Rattle.std.specs.Prelude.{◌≡◌, ◌<◌, ◌≤◌, ◌++◌, length, drop, Err};
+ghost use Rattle.account.specs.Answers.{place_of};
+ghost use Rattle.exports.specs.Lent.{IsPlaced, one_number, account_number, lent_number, lent_account};
 
-use account::{Accounted, Answer};
+use account::{Account, Refusal};
 use travel::{SIZE, record_of};
-
-fn number_of(answer: Answer) -> usize
-    ensures { result ≡ number_of answer }
-{
-    match answer {
-        Answer::Done => 0,
-        Answer::NotWhole => 1,
-        Answer::TooMany => 2,
-        Answer::BadField(_) => 3,
-        Answer::WorkingEngine => 6,
-        Answer::AboveCeiling => 7,
-    }
-}
-
-fn place_of(answer: Answer) -> usize
-    ensures { result ≡ place_of answer }
-{
-    match answer {
-        Answer::BadField(place) => place,
-        Answer::Done => 0,
-        Answer::NotWhole => 0,
-        Answer::TooMany => 0,
-        Answer::WorkingEngine => 0,
-        Answer::AboveCeiling => 0,
-    }
-}
 
 // Number and place as one number; a place is that of one of 200 records, or of 64 sections.
 pub(crate) fn one_number(number: usize, place: usize) -> u64
@@ -40,32 +14,34 @@ pub(crate) fn one_number(number: usize, place: usize) -> u64
     (number + 256 * place) as u64
 }
 
-// An answer of the accounts' library.
-fn account_number(answer: Answer) -> u64
-    requires { place_of answer ≤ 200 }
-    ensures { result ≡ account_number answer }
+// A refusal of the accounts' library.
+fn account_number(refusal: Refusal) -> u64
+    requires { place_of refusal ≤ 200 }
+    ensures { result ≡ account_number (Err refusal) }
 {
-    one_number(number_of(answer), place_of(answer))
+    match refusal {
+        Refusal::NotWhole => 1,
+        Refusal::TooMany => 2,
+        Refusal::BadField(place) => one_number(3, place),
+        Refusal::WorkingEngine => 6,
+        Refusal::AboveCeiling => 7,
+    }
 }
 
-// Writes the account where it is done and has room, and answers.
-pub(crate) fn lend(given: Accounted, room: &mut [u8]) -> u64
-    requires { place_of given.answer ≤ 200 }
+// Writes the account where there is one and it has room, and answers.
+pub(crate) fn lend(given: Result<Account, Refusal>, room: &mut [u8]) -> u64
+    requires { IsPlaced place_of given }
     ensures value { result ≡ lent_number given (length room.old) }
     ensures room_after { room.new ≡ lent_account given room.old }
 {
-    let answer = given.answer;
-    let number = account_number(answer);
-    if number != 0 {
-        return number;
+    match given {
+        Err(refusal) => account_number(refusal),
+        Ok(_) if room.len() < SIZE => 5,
+        Ok(account) => {
+            copy(&record_of(account), room);
+            0
+        }
     }
-    if room.len() < SIZE {
-        return 5;
-    }
-    let account = given.account;
-    let bytes = record_of(account);
-    copy(&bytes, room);
-    0
 }
 
 // Copies into the front of a buffer that has room, and answers how many bytes.

@@ -6,34 +6,33 @@ ghost use Rattle.account.specs.Portions.{accounted, joined};
 ghost use Rattle.judge.specs.Answers.{place_of, train_answer, train_sheet, account_answer, account_sheet};
 ghost use Rattle.route.specs.Answers.{train_route, train_speeds, account_route, account_speeds};
 ghost use Rattle.travel.specs.AccountRecords.{offered};
-ghost use Rattle.exports.specs.Lent.{sheet_number, route_number, lent_number, lent_account, lent_vehicle, lent_room};
+ghost use Rattle.exports.specs.Lent.{IsPlaced, sheet_number, route_number, lent_number, lent_account, lent_vehicle, lent_room};
 
 use account::{account_of, join};
 use answer::{number_of, place_of};
-use judge::{Answer, sheet_of_account, sheet_of_train};
+use judge::{Refusal, sheet_of_account, sheet_of_train};
 use lend::{copy, lend, one_number};
 use record::vehicle::SIZE;
-use route::{Route, route_of_account, route_of_train};
+use route::{route_of_account, route_of_train};
 use speed::holds_the_speed;
 use travel::offered_by;
 
 mod lend;
 
-// An answer of the judging library as one number.
-fn sheet_number(answer: Answer) -> u64
-    requires { place_of answer ≤ 200 }
+// An answer of the judging library, or of the route library, as one number.
+fn sheet_number<T: Copy>(answer: Result<T, Refusal>) -> u64
+    requires { IsPlaced place_of answer }
     ensures { result ≡ sheet_number answer }
 {
     one_number(number_of(answer), place_of(answer))
 }
 
 // An answer of the route library: the same number, and the category granted above it.
-fn route_number(route: Route) -> u64
-    requires { place_of route.answer ≤ 200 }
+fn route_number(route: Result<u8, Refusal>) -> u64
+    requires { IsPlaced place_of route }
     ensures { result ≡ route_number route }
 {
-    let answer = route.answer;
-    sheet_number(answer) + 4294967296 * route.granted as u64
+    sheet_number(route) + 4294967296 * u64::from(route.unwrap_or(0))
 }
 
 // The sheet of a whole train.
