@@ -43,7 +43,9 @@ impl Family {
         }
     }
 
-    // The first rule that a category of the family breaks, or 0. MA is a const, so that each of the two holds one's own rules alone: a function with both is not put where it is called.
+    // The first rule that a category of the family breaks, or 0. MA is a const, so that each of the two holds one's own rules alone.
+    // Put where it is called, so that the category's figures are known there: called, a sheet costs several times as much.
+    #[inline(always)]
     fn broken_by<const MA: bool>(&self, c: Category, line: u8) -> u8
         requires alike { (c.isg ≡ MA) × (self.now.isma ≡ MA) × (c.weigh ≡ self.now.weigh) }
         requires line_value { line ≡ line_speed c self.now.order }
@@ -59,6 +61,7 @@ impl Family {
 
     // As the families of rules: a trait for the two would be longer than these lines.
     #[tactic(auto, unfolding(rules::specs::Grants::offer_of, categories::specs::Categories::speed_of))]
+    #[inline(always)]
     pub(crate) fn offered<const MA: bool>(&self, c: Category) -> Offer
         requires { (c.isg ≡ MA) × (self.now.isma ≡ MA) × (c.weigh ≡ self.now.weigh) }
         ensures { result ≡ offer_of domestic self.now.facts self.now.order c }

@@ -47,6 +47,7 @@ impl Family {
     }
 
     // The first rule that a category of the family breaks, or 0.
+    #[inline(always)]
     fn broken_by(&self, c: Category, line: u8) -> u8
         requires alike { (c.isg ≡ self.now.isg) × (c.weigh ≡ self.now.weigh) }
         requires line_value { line ≡ line_speed c self.now.order }
@@ -62,6 +63,7 @@ impl Family {
 
     // Domestic has these lines too: a trait of families for the two would be longer than they are.
     #[tactic(auto, unfolding(crate::specs::Grants::offer_of, categories::specs::Categories::speed_of))]
+    #[inline(always)]
     pub(crate) fn offered(&self, c: Category) -> Offer
         requires { (c.isg ≡ self.now.isg) × (c.weigh ≡ self.now.weigh) }
         ensures { result ≡ offer_of cross_border self.now.facts self.now.order c }
