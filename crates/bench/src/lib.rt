@@ -47,7 +47,7 @@ fn write_front<const N: usize>(line: &Line, lent: &mut [u8; N]) -> usize
     bytes.len()
 }
 
-// Writes the line of an input of SHEET in front of the lent one and answers its length.
+// Writes the line of an input of SHEET in front of the lent one and answers its length: memory is lent, and a String would be of the heap.
 pub fn line_of(input: &[u8], line: &mut [u8; 128]) -> usize
     ensures value { result ≡ length (line_of input.now) }
     ensures line_after { line.new ≡ line_of input.now ++ drop (length (line_of input.now)) line.old }

@@ -30,7 +30,7 @@ pub(crate) fn put_field(n: usize, line: &mut Line)
     line.push(b' ');
 }
 
-// Each byte in two hex digits.
+// Each byte in two hex digits; not by `write!` either.
 fn put_hex(bytes: &[u8], line: &mut Line)
     requires { array_vec_len line.old + 2 * length bytes.now ≤ 256 }
     ensures { line.new.items ≡ line.old.items ++ hex bytes.now }
@@ -41,7 +41,7 @@ fn put_hex(bytes: &[u8], line: &mut Line)
     }
 }
 
-// Bytes in hex, or "-" if refused.
+// Bytes in hex, or "-" if refused. A mark beside the bytes, as `bytes_text` and `last_field` of specs/ have it.
 fn put_bytes(done: bool, bytes: &[u8], line: &mut Line)
     requires { array_vec_len line.old + max 1 (2 * length bytes.now) ≤ 256 }
     ensures { line.new.items ≡ line.old.items ++ bytes_text done bytes.now }

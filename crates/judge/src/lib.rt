@@ -108,7 +108,8 @@ pub fn sheet_of_train(vehicles: &[u8], order: &[u8], sheet: &mut [u8]) -> Result
     Ok(())
 }
 
-// The sheet of working engines lent apart, with an account of what they haul.
+// The sheet of working engines lent apart, with an account of what they haul. Beside `sheet_of_train`: the two differ in where the facts come from,
+// and README names both; a trait of a train and of engines beside an account would be longer than these lines.
 pub fn sheet_of_account(
     engines: &[u8],
     hauled: Account,

@@ -54,7 +54,7 @@ pub fn route_of_train(vehicles: &[u8], orders: &[u8], speeds: &mut [u8]) -> Resu
     Ok(put_route(f, orders, speeds))
 }
 
-// The same of working engines lent apart, with an account of what they haul.
+// The same of working engines lent apart, with an account of what they haul. Two functions, as in judge: they differ in where the facts come from.
 pub fn route_of_account(
     engines: &[u8],
     hauled: Account,

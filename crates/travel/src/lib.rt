@@ -22,6 +22,7 @@ fn figure(bytes: &[u8; SIZE], at: usize) -> u32
     u32::from_le_bytes([bytes[at], bytes[at + 1], bytes[at + 2], bytes[at + 3]])
 }
 
+// The five settings are written out: of a `map` over a part of the bytes no proof closed.
 fn account_in(bytes: &[u8; SIZE]) -> Account
     ensures { result ≡ account_in bytes.now }
 {
@@ -103,6 +104,7 @@ fn setting_byte(setting: u32) -> u8
 }
 
 // The bytes of an account; one above its ceilings reads back above them. Line by line, so that each place stands beside its figure, as in the header's table.
+// A function, as is `offered_by`, and no From: neither an account nor an array of bytes is a type of this crate.
 pub fn record_of(a: Account) -> [u8; SIZE]
     ensures { result ≡ record_of a }
 {
