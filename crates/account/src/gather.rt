@@ -58,7 +58,7 @@ pub(crate) struct Gathered {
     pub(crate) longest: u32,
     pub(crate) rule18: bool,
     pub(crate) slowest: u32,
-    // the settings of the first five, 4 where there is none
+    // the settings of the first five, 4 where there is none: numbers, as in the account
     pub(crate) first: [u32; 5],
     pub(crate) enginemmass: u32,
     pub(crate) wagonvmass: u32,

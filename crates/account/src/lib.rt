@@ -53,7 +53,7 @@ pub struct Account {
     pub enginenotm: bool,
 }
 
-// Why there is no account, with its number among the answers, in which 0 is done.
+// Why there is no account, with its number among the answers, in which 0 is done. Beside judge's: document 01 has a list of each library's own.
 #[derive(Clone, Copy, PartialEq, Eq)]
 pub enum Refusal {
     // 1: not a multiple of 24 bytes

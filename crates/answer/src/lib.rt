@@ -1,4 +1,4 @@
-// Document 01's number and place of an answer, to a sheet or to a route.
+// Document 01's number and place of an answer, to a sheet or to a route. Its table, so that a match says it; accounts have their own numbers in exports.
 #![tactic(auto)]
 
 ghost use Rattle.std.specs.Prelude.{◌≡◌};

@@ -53,7 +53,7 @@ fn put_bytes(done: bool, bytes: &[u8], line: &mut Line)
     }
 }
 
-// The last field and the line feed that closes the line.
+// The last field and the line feed that closes the line. Each of these asks for the room that it takes.
 pub(crate) fn put_last(done: bool, bytes: &[u8], line: &mut Line)
     requires { array_vec_len line.old + max 1 (2 * length bytes.now) < 256 }
     ensures { line.new.items ≡ line.old.items ++ last_field done bytes.now }

@@ -190,7 +190,7 @@ impl Category {
         weigh: Weigh::Whole,
     };
 
-    // Its column's limit, or the first not missing to the right; 0 where there is none (000, article 1502).
+    // Its column's limit, or the first not missing to the right; 0 where there is none (000, article 1502), as `line_speed` and rules 30 and 61 have it.
     pub fn line_speed(self, o: Order) -> u8
         ensures { result ≡ line_speed self o }
     {

@@ -104,7 +104,7 @@ pub(crate) fn base_of(isma: bool, f: Facts, o: Order) -> u32
     word_of(&marks_of(still_terms(isma, f, o), f))
 }
 
-// 61, 62, 64, 66, 67, 73, 77, each at its bit.
+// 61, 62, 64, 66, 67, 73, 77, each at its bit; without the rest of `Terms`, which they do not read.
 pub(crate) fn own_me(speed: u8, alone: u32, line: u8, short: bool, f: Facts) -> u32
     ensures { (result ≡ own_me speed alone line short f) × (result ≤ 139478) }
 {

@@ -14,7 +14,7 @@ pub(crate) fn one_number(number: usize, place: usize) -> u64
     (number + 256 * place) as u64
 }
 
-// A refusal of the accounts' library.
+// A refusal of the accounts' library: its numbers, which C has (include/prskavon.h).
 fn account_number(refusal: Refusal) -> u64
     requires { place_of refusal ≤ 200 }
     ensures { result ≡ account_number (Err refusal) }

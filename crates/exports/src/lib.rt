@@ -27,7 +27,7 @@ fn sheet_number<T: Copy>(answer: Result<T, Refusal>) -> u64
     one_number(number_of(answer), place_of(answer))
 }
 
-// An answer of the route library: the same number, and the category granted above it.
+// An answer of the route library: the same number, and the category granted above it, as C has it.
 fn route_number(route: Result<u8, Refusal>) -> u64
     requires { IsPlaced place_of route }
     ensures { result ≡ route_number route }
@@ -99,7 +99,7 @@ pub extern "C" fn prskavon_route_of_account(
     route_number(route_of_account(engines, offered_by(hauled), orders, speeds))
 }
 
-// Copies the vehicle that holds the speed, and answers how many bytes it copied.
+// Copies the vehicle that holds the speed, and answers how many bytes it copied, 0 where there is none, as C has it.
 #[unsafe(no_mangle)]
 pub extern "C" fn prskavon_holds_the_speed<'a>(
     front: &'a [u8],

@@ -24,7 +24,7 @@ pub(crate) struct Engines {
     pub isolated: u32,
 }
 
-// No engine's figures.
+// No engine's figures, and no None: sums go over two engines where there may be one (`both_of`).
 const NONE: Engines = Engines {
     count: 0,
     mass: 0,

@@ -66,13 +66,14 @@ fn figure(x: u32, y: u32, z: u32) -> u32
     x.wrapping_add(y).wrapping_add(z)
 }
 
-// A figure in a byte.
+// A figure in a byte, cut off as `held` has it.
 fn byte(x: u32) -> u8
     ensures { result ≡ x % 256 }
 {
     (x % 256) as u8
 }
 
+// Of an account's settings 1 is M, 2 V, 3 R: numbers there, since any may come (`Account.first`).
 fn first_five_v(a: Account) -> bool
     ensures { result ≡ first_five_v_by a }
 {

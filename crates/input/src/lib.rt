@@ -54,7 +54,7 @@ fn after(
     }
 }
 
-// Read's answer, with the number of the error.
+// Read's answer, with the number of the error: of an `io::Error` no clause says which it is.
 fn told(answer: io::Result<usize>) -> Result<usize, i32>
     ensures { result ≡ told answer }
 {

@@ -18,6 +18,7 @@ pub(crate) fn field_refusal(records: &[u8]) -> Result<(), Refusal>
 }
 
 // 3, looked for in a part of the records where the others are known to be good.
+// The mark is what the caller was told of the others, and of no value here.
 pub(crate) fn field_refusal_in(
     part: &[u8],
     records: &[u8],

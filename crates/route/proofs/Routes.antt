@@ -38,9 +38,6 @@ module _ (orders : List ℕ) (room : ℕ) where
   abbrev some_bad : Bool
   some_bad = not (all (good_section (asked_in orders) (book_named_in orders)) (records_of orders))
 
-  pub refused_whole : no_route orders ≡ true → Err (BadOrder 0) ≡ answered (section_refusals orders room)
-  refused_whole e = rw e
-
   module _ (route : no_route orders ≡ false) where
     pub refused_section : (place : ℕ) → place ≡ leading_good orders → some_bad ≡ true → Err (BadOrder place) ≡ answered (section_refusals orders room)
     refused_section place found e = rw (route, e) (ap (λ (k : ℕ). Err (BadOrder k)) found)

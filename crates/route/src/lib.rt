@@ -34,7 +34,7 @@ fn section_refusal(orders: &[u8], room: usize) -> Result<(), Refusal>
     Ok(())
 }
 
-// Writes the speeds in the category granted on every section, and gives its number, or 0.
+// Writes the speeds in the category granted on every section, and gives its number, or 0, as C and ROUTE say it (`granted_for`).
 fn put_route(f: Facts, orders: &[u8], speeds: &mut [u8]) -> u8
     ensures value { result ≡ granted_for f orders.now }
     ensures speeds_after { speeds.new ≡ laid_over (speeds_for f orders.now) speeds.old }

@@ -46,7 +46,7 @@ impl Family {
         }
     }
 
-    // The first rule that a category of the family breaks, or 0.
+    // The first rule that a category of the family breaks, or 0, as `broken_by` gives it. The family says beside which rows it stands: a row is the table's.
     #[inline(always)]
     fn broken_by(&self, c: Category, line: u8) -> u8
         requires alike { (c.isg ≡ self.now.isg) × (c.weigh ≡ self.now.weigh) }

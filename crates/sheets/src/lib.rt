@@ -42,6 +42,7 @@ pub struct Sheet {
     // of the asked category, as are its percentage and braked mass
     pub margin: [u8; 3],
     pub percentage: u8,
+    // byte 14 or 15 as it is written
     pub mark: u8,
     pub isolated: u8,
     pub hauled: u32,
@@ -162,7 +163,7 @@ fn lay(head: [u8; HEAD], tail: [u8; TAIL], length: usize) -> [u8; MOST]
     line
 }
 
-// The sheet by the order's book: 32 bytes and a 0, or 33. Facts and order are two, for on a route the same facts meet each section's order.
+// The sheet by the order's book: 32 bytes and a 0, or 33: an array, for there is no heap. Facts and order are two, for on a route the same facts meet each section's order.
 #[tactic(auto, using(crate::proofs::Sheets::laid_sheet, crate::proofs::Sheets::length_within))]
 pub fn sheet_of(f: Facts, o: Order) -> [u8; MOST]
     ensures { result ≡ in_most (sheet_of (book_of o.book) f o) }

@@ -23,7 +23,7 @@ fn slowest<'a>(front: &'a [[u8; SIZE]], back: &'a [[u8; SIZE]]) -> Option<&'a [u
         .reduce(|best, next| if next[20] < best[20] { next } else { best })
 }
 
-// The bytes of the vehicle that holds the speed, out of whichever portion has it.
+// The bytes of the vehicle that holds the speed, out of whichever portion has it; where there is none an empty part and no None, as `holds_the_speed` and C have it.
 pub fn holds_the_speed<'a>(front: &'a [u8], back: &'a [u8]) -> &'a [u8]
     ensures { result.now ≡ holds_the_speed front.now back.now }
 {

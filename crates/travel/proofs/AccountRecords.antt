@@ -39,12 +39,6 @@ module _ (bs : List ℕ) where
   unfolding is_plain
   plain_long h = rw (eq-eqb (length bs) size h) (ap₂ ◌&&◌ (all_list (λ m. m at_most 1) (marks_in bs)) (all_list (λ u. u is 0) (unused_in bs)))
 
-  pub long_plain : is_plain bs ≡ true → length bs ≡ size
-  unfolding is_plain
-  long_plain e =
-      let t = (both (length bs is size && all (λ m. m at_most 1) (marks_in bs)) (all (λ u. u is 0) (unused_in bs)) e).0 in
-      eqb-true (length bs) size (both (length bs is size) (all (λ m. m at_most 1) (marks_in bs)) t).0
-
   pub offered_by_test : (b : Bool) → is_plain bs ≡ b → account_in (cond b bs above_ceiling) ≡ offered bs
   unfolding offered
   offered_by_test b e = rw e

@@ -13,7 +13,7 @@ pub const SIZE: usize = 128;
 // The first byte that is not used.
 const UNUSED: usize = 82;
 
-// The number in the four bytes from `at` on.
+// The number in the four bytes from `at` on, written out: a part of them would be tested for its length as it runs.
 #[tactic(auto, using(lists::proofs::Numbers::four_read))]
 fn figure(bytes: &[u8; SIZE], at: usize) -> u32
     requires { at + 4 ≤ size }
@@ -68,7 +68,7 @@ fn is_plain(bytes: &[u8; SIZE]) -> bool
     marks.iter().all(|mark| *mark <= 1) & bytes[UNUSED..].iter().all(|byte| *byte == 0)
 }
 
-// Bytes whose account is above its ceiling.
+// Bytes whose account is above its ceiling, and no None: of what C lends, 7 refuses what is no account (`offered`).
 fn above_ceiling() -> [u8; SIZE]
     ensures { result ≡ above_ceiling }
 {
