@@ -74,7 +74,7 @@ fn route_line_by(route: Result<u8, Refusal>, speeds: &[u8]) -> Line
     line
 }
 
-// Writes the line of an input of ROUTE in front of the lent one and answers its length. Beside `line_of`: they share `write_front`, and read other inputs.
+// Writes the line of an input of ROUTE in front of the lent one and answers its length. Beside `line_of`: a bound `Fn` over arrays `[u8; N]` gets no proof, and they read other inputs.
 pub fn route_line_of(input: &[u8], line: &mut [u8; 256]) -> usize
     ensures value { result ≡ length (route_line_of input.now) }
     ensures line_after { line.new ≡ route_line_of input.now ++ drop (length (route_line_of input.now)) line.old }

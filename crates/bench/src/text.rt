@@ -9,6 +9,7 @@ use itoa::Buffer;
 // Room for the longest line, which ROUTE's is.
 pub(crate) type Line = ArrayVec<u8, 256>;
 
+// Not by {:x}: no clause of std says that `write!` answers no error.
 #[tactic(auto, unfolding(crate::specs::Texts::glyph_of))]
 fn glyph(d: u8) -> u8
     requires { d < 16 }

@@ -10,7 +10,7 @@ use facts::Facts;
 use order::{Book, Order};
 use rules::grant::{Decision, decide_cross_border};
 
-// What is decided by the book, whichever the order itself names: on a route that is the first section's.
+// What is decided by the book, whichever the order itself names: on a route that is the first section's. Facts and order are two: the same facts meet each section's order.
 // A match here and below: a trait that two unit types stand for would still be chosen by one.
 #[tactic(auto, unfolding(crate::specs::Books::book_of))]
 pub fn decide(book: Book, f: Facts, o: Order) -> Decision

@@ -43,7 +43,7 @@ impl Family {
         }
     }
 
-    // The first rule that a category of the family breaks, or 0. MA is a const, so that each of the two holds one's own rules alone.
+    // The first rule that a category of the family breaks, or 0, as `broken_by` gives it. MA is a const, so that each of the two holds one's own rules alone.
     // Put where it is called, so that the category's figures are known there: called, a sheet costs several times as much.
     #[inline(always)]
     fn broken_by<const MA: bool>(&self, c: Category, line: u8) -> u8

@@ -9,7 +9,7 @@ use facts::Facts;
 use order::Order;
 use rules::grant::{Decision, decided};
 
-// What is decided by the domestic book.
+// What is decided by the domestic book. Beside the cross-border one's: rules and rows differ, and a trait of the two would be longer.
 pub fn decide_domestic(f: Facts, o: Order) -> Decision
     ensures { result ≡ decision_of domestic f o }
 {

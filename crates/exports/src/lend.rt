@@ -44,7 +44,7 @@ pub(crate) fn lend(given: Result<Account, Refusal>, room: &mut [u8]) -> u64
     }
 }
 
-// Copies into the front of a buffer that has room, and answers how many bytes.
+// Copies into the front of a buffer that has room, and answers how many bytes: C lends the memory.
 pub(crate) fn copy(from: &[u8], to: &mut [u8]) -> usize
     requires { length from.now ≤ length to.old }
     ensures count { result ≡ length from.now }

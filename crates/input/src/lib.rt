@@ -39,6 +39,7 @@ fn after(
     done: usize,
     room: usize,
     answer: Result<usize, i32>,
+    // of the terminal, and not of this answer
     lost: bool,
 ) -> Result<ControlFlow<usize, usize>, i32>
     requires { (done ≤ room) × IfOk answer (λ n. n ≤ room - done) }
@@ -109,7 +110,7 @@ impl Source {
         Err(EINTR)
     }
 
-    // Reads until standard input ends or the buffer is full, and says how many bytes that are.
+    // Reads until standard input ends or the buffer is full, and says how many bytes that are: memory is lent, for there is no heap.
     pub fn read_whole(&mut self, buffer: &mut [u8]) -> Result<usize, Failure>
         ensures { Held result buffer.new }
     {

@@ -60,7 +60,7 @@ pub fn train_facts(vehicles: &[u8], lent: Result<(), Refusal>) -> Result<Facts, 
     Ok(facts_beside(engines, hauled))
 }
 
-// The same of working engines lent apart, with an account of what they haul: their own order of refusals.
+// The same of working engines lent apart, with an account of what they haul: their own order of refusals, so that a trait of both would be longer.
 pub fn account_facts(
     engines: &[u8],
     hauled: Account,

@@ -15,7 +15,7 @@ use categories::category::{Category, Weigh};
 use facts::Facts;
 use order::Order;
 
-// Categories that weigh alike and are asked the same rules but for 30 and 47, of one train on one order.
+// Categories that weigh alike and are asked the same rules but for 30 and 47, of one train on one order. Domestic has its own: the rules differ, and so what is held.
 #[derive(Drop)]
 pub(crate) struct Family {
     pub(crate) isg: bool,

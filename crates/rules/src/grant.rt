@@ -18,7 +18,7 @@ pub struct Offer {
 }
 
 impl Offer {
-    // A category that a book does not have breaks a rule of a number that no rule has, so that it never stands.
+    // A category that a book does not have breaks a rule of a number that no rule has, so that it never stands. No None: `absent_rule` and `absent_passed` speak of 255.
     pub const ABSENT: Offer = Offer {
         number: 0,
         speed: 0,
@@ -76,7 +76,7 @@ pub fn decided(asked: u8, offers: [Offer; 6]) -> Decision
     }
 }
 
-// What is decided by the cross-border book.
+// What is decided by the cross-border book. Beside the domestic one's: rules and rows differ, and a trait of the two would be longer.
 pub fn decide_cross_border(f: Facts, o: Order) -> Decision
     ensures { result ≡ decision_of cross_border f o }
 {

@@ -26,7 +26,7 @@ pub(crate) fn first_section(orders: &[u8]) -> Order
     }
 }
 
-// Refusal 4 is for a section that is not so.
+// Refusal 4 is for a section that is not so. Two of an order's six figures are compared, so no derived ==.
 #[tactic(auto, using(crate::proofs::Places::section_bad, crate::proofs::Places::section_good))]
 fn is_good_section(first: Order, section: &[u8]) -> bool
     ensures { result ≡ good_section first.asked first.book section.now }
