@@ -7,7 +7,6 @@ use mathlib.Core.List.{List, [], ◌∷◌, ◌++◌, map}
 use borrow.Author.Tests.{eq-eqb, eqb-true, eqb-false, ltb-false, not-false}
 use lib.ListN.{length, length-append}
 use Rattle.std.specs.Prelude.{Result, Ok, Err, IsOk, is_ok, ⊤}
-use Rattle.std.specs.Result.{result_and}
 use Rattle.lists.specs.Refusals.{answered}
 use Rattle.lists.proofs.Refusals.{none_of}
 use Rattle.lists.specs.Words.{all, Every}
@@ -20,6 +19,7 @@ use Rattle.lists.specs.Figures.{some}
 use Rattle.account.specs.Accounts.{account_of}
 use Rattle.account.specs.Ceilings.{within}
 use Rattle.account.specs.Joining.{joining}
+use Rattle.account.specs.Answers.{unless_refused}
 use Rattle.account.specs.Portions.{portion_refusals, accounted, join_refusals, joined}
 use Rattle.account.specs.Groupings.{GoodHauled, Portion, GoodPortion, Grouping, portion, pair, uncut, joined_answers, joined_bytes, BetweenRecords, NoneRefused}
 use Rattle.account.specs.declared.Account.{Account}
@@ -36,7 +36,7 @@ pub record Sound (bs : List ℕ) : Type 0 where
   pub hauled : Portion (vehicles bs)
 
 -- an answer that is done has no refusal that applies
-done_refuses : (r : Result ⊤ Refusal) (a : Account) → IsOk (result_and r (Ok a)) → IsOk r
+done_refuses : (r : Result ⊤ Refusal) (a : Account) → IsOk (unless_refused r a) → IsOk r
 done_refuses (Ok done) a e = refl
 done_refuses (Err refusal) a e = e
 

@@ -8,7 +8,7 @@ use mathlib.Core.Bool.{Bool, true, false, cond}
 use mathlib.Core.List.{List, [], ◌∷◌, ◌++◌, map, append-nil}
 use borrow.Author.Tests.{eqb-true}
 use lib.ListN.{length, get_or}
-use Rattle.std.specs.Prelude.{Ok, Err, IsOk}
+use Rattle.std.specs.Prelude.{Result, Ok, Err, IsOk, ⊤}
 use Rattle.lists.specs.Words.{all, leading, Every, Case, case_at, First}
 use Rattle.lists.specs.Refusals.{answered}
 use Rattle.lists.specs.Figures.{some}
@@ -22,11 +22,12 @@ use Rattle.record.proofs.Demands.{found_number_lem, found_place_lem, mistyped_so
 use Rattle.account.specs.Accounts.{account_of, empty, sums}
 use Rattle.account.specs.Ceilings.{◌up_to◌, figures, within, Within}
 use Rattle.account.specs.Joining.{joining}
-use Rattle.account.specs.Answers.{Answer, account_given, number_of, place_of, answer_number, answer_place}
+use Rattle.account.specs.Answers.{Answer, refused_by, account_given, number_of, place_of, answer_number, answer_place, unless_refused}
 use Rattle.account.specs.Portions.{portion_refusals, engine_or_bad, accounted, join_refusals, joined}
 use Rattle.account.specs.Groupings.{Hauled, GoodHauled, Portion, GoodPortion, Grouping, uncut, joined_vehicles, joined_bytes, BetweenRecords, NoneRefused}
 use Rattle.account.specs.declared.Account.{Account}
 use Rattle.account.specs.declared.Refusal.{Refusal}
+use Rattle.account.specs.declared.Refused.{Refused}
 use Rattle.account.specs.declared.Refusal.TheVariants.{BadField}
 use Rattle.account.proofs.Ceils as ceils
 use Rattle.account.proofs.Ceils.{test_within, within_test, portion_ceilings}
@@ -56,9 +57,16 @@ pub join_places : (left right : Account) → map (λ (r : Case Refusal). place_o
 unfolding join_refusals
 join_places left right = refl
 
--- a refusal gives the empty account
-pub refused_gives_empty : (answer : Answer) (refusal : Refusal) → answer ≡ Err refusal → account_given answer ≡ empty
-refused_gives_empty answer refusal e = ap account_given e
+-- a refusal returns the empty account, of a portion and of joining
+with_empty : (r : Result ⊤ Refusal) (a : Account) (refused : Refused) → unless_refused r a ≡ Err refused → refused.account ≡ empty
+with_empty (Ok done) a refused e = absurd cc
+with_empty (Err refusal) a refused e = sym (ap account_given e)
+
+pub refused_gives_empty : (bs : List ℕ) (refused : Refused) → accounted bs ≡ Err refused → refused.account ≡ empty
+refused_gives_empty bs = with_empty (answered (portion_refusals bs)) (account_of (vehicles bs))
+
+pub refused_join_gives_empty : (left right : Account) (refused : Refused) → joined left right ≡ Err refused → refused.account ≡ empty
+refused_join_gives_empty left right = with_empty (answered (join_refusals left right)) (joining left right)
 
 -- each is given when it applies and no earlier one does, and none when none applies; other stands for no case at all
 pub answered_in_order : (other : Refusal) (rs : List (Case Refusal)) (f : First other rs) → answered rs ≡ Err (case_at other rs f.place).gives
@@ -85,8 +93,8 @@ refused_as_found bs whole few bad =
 pub portion_done_exactly : (bs : List ℕ) → (IsOk (accounted bs) → GoodPortion bs) × (GoodPortion bs → accounted bs ≡ Ok (account_of (vehicles bs)))
 portion_done_exactly bs = (λ done. sound_good bs (done_sound bs done), λ g. sound_done bs (good_sound bs g))
 
--- request Two: with one digit of one number mistyped it is refused by 3, at that record's place
-pub portion_mistyped : (bs other : List ℕ) (i : ℕ) → is_whole bs ≡ true → record_count bs ≤ 200 → all good (records_of bs) ≡ true → Mistyped bs other i → accounted other ≡ Err (BadField i)
+-- request Two: with one digit of one number mistyped it is refused by 3, at that record's place, with the empty account
+pub portion_mistyped : (bs other : List ℕ) (i : ℕ) → is_whole bs ≡ true → record_count bs ≤ 200 → all good (records_of bs) ≡ true → Mistyped bs other i → accounted other ≡ Err (refused_by (BadField i))
 portion_mistyped bs other i whole few g m =
     sym (answer_3 other (omega (arith, eqb-true (length bs % 24) 0 whole, m.long)) (omega (arith, few, m.long)) i (mistyped_some bs other i m g, mistyped_place bs other i m g))
 
@@ -103,7 +111,7 @@ hauled_not_working = portions.hauled_not_working
 
 -- of at most 200 whole records: 6 or, before it, 3 where there is a working engine; done where all are good and none works
 module _ (bs : List ℕ) (whole : length bs % 24 ≡ 0) (few : record_count bs ≤ 200) where
-  pub answer_6 : some is_working (vehicles bs) ≡ true → Err (engine_or_bad (records_of bs)) ≡ accounted bs
+  pub answer_6 : some is_working (vehicles bs) ≡ true → Err (refused_by (engine_or_bad (records_of bs))) ≡ accounted bs
   answer_6 = portions.answer_6 bs whole few
 
   pub answer_0 : all good (records_of bs) ≡ true → some is_working (vehicles bs) ≡ false → Ok (account_of (vehicles bs)) ≡ accounted bs

@@ -14,10 +14,12 @@ use Rattle.lists.specs.Figures.{sum, count, some, behind}
 use Rattle.account.specs.Accounts.{account_of, sums}
 use Rattle.account.specs.Ceilings.{within}
 use Rattle.account.specs.Joining.{joining}
+use Rattle.account.specs.Answers.{Answer, refused_by}
 use Rattle.account.specs.Portions.{join_refusals, joined}
 use Rattle.account.specs.Groupings.{Hauled, GoodHauled, Portion, Grouping, portion, pair, uncut, joined_answers, joined_vehicles}
 use Rattle.account.specs.declared.Account.{Account}
 use Rattle.account.specs.declared.Refusal.TheVariants.{TooMany, AboveCeiling}
+use Rattle.account.specs.declared.Refused.{Refused}
 use Rattle.lists.proofs.Lists.{neither, every_map}
 use Rattle.lists.proofs.Figures.{sum_append, count_append, some_append, leading_append, trailing_append, longest_append, behind_append, some_count, some_same, lack_count, least_append, firsts_append, sum_exchange, length_exchange, sum_less, cond_le}
 use Rattle.account.proofs.Ceils.{within_test, portion_ceilings, portion_left, portion_right}
@@ -73,12 +75,16 @@ pub each_hauled : (xs : List Vehicle) → Every GoodHauled xs → Every Hauled x
 each_hauled = every_map GoodHauled Hauled (λ v g. g.hauled)
 
 -- ---- what joining answers, case by case
+-- a refusal as the code makes it
+pub refused_is : {r s : Refused} → r ≡ s → ◌≡◌ {A = Answer} (Err r) (Err s)
+refused_is e = ap (λ (r : Refused). Err r) e
+
 module _ (left right : Account) where
-  pub joined_above : (within left && within right) ≡ false → Err AboveCeiling ≡ joined left right
+  pub joined_above : (within left && within right) ≡ false → Err (refused_by AboveCeiling) ≡ joined left right
   unfolding join_refusals
   joined_above e = simp e
 
-  pub joined_many : (within left && within right) ≡ true → within (joining left right) ≡ false → Err TooMany ≡ joined left right
+  pub joined_many : (within left && within right) ≡ true → within (joining left right) ≡ false → Err (refused_by TooMany) ≡ joined left right
   unfolding join_refusals
   joined_many d e = simp (d, e)
 

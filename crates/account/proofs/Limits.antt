@@ -10,7 +10,7 @@ use Rattle.account.specs.Accounts.{account_of}
 use Rattle.account.specs.Ceilings.{within}
 use Rattle.account.specs.Joining.{joining}
 use Rattle.account.specs.Portions.{portion_refusals, join_refusals}
-use Rattle.account.specs.Limits.{at_limits, expected, lists, accounts, marks, marked, together, joined_figures, runs, runs_joined, behinds, behinds_joined, fives, fives_joined, refused_accounts, refusals_alone, answers, answered}
+use Rattle.account.specs.Limits.{at_limits, expected, lists, accounts, marks, marked, together, joined_figures, runs, runs_joined, behinds, behinds_joined, fives, fives_joined, refused_accounts, refusals_with_none, answers, answered}
 
 pub limits : at_limits ≡ expected
 unfolding within all
@@ -45,6 +45,6 @@ pub answers_given : answers ≡ answered
 unfolding portion_refusals join_refusals joining within all records good vehicle little_endian closes
 answers_given = refl
 
-pub empty_on_refusal : refused_accounts ≡ refusals_alone
+pub empty_on_refusal : refused_accounts ≡ refusals_with_none
 unfolding portion_refusals join_refusals joining account_of within all records good vehicle little_endian closes
 empty_on_refusal = refl

@@ -295,7 +295,7 @@ fives_joined =
 abbrev answer_of : Answer → ℕ × ℕ
 answer_of r = (answer_number r, answer_place r)
 
--- 1, 2, 3, 6 of a portion, 7 and 2 of joining: a refusal holds no account
+-- 1, 2, 3, 6 of a portion, 7 and 2 of joining: a refusal returns the empty account
 abbrev pub refused_accounts : List Answer
 refused_accounts =
     accounted (replicate 23 0)
@@ -306,8 +306,8 @@ refused_accounts =
     ∷ joined (alone 0 150) (alone 0 51)
     ∷ []
 
-abbrev pub refusals_alone : List Answer
-refusals_alone = Err NotWhole ∷ Err TooMany ∷ Err (BadField 0) ∷ Err WorkingEngine ∷ Err AboveCeiling ∷ Err TooMany ∷ []
+abbrev pub refusals_with_none : List Answer
+refusals_with_none = map (λ r. Err (record { refusal = r; account = none })) (NotWhole ∷ TooMany ∷ BadField 0 ∷ WorkingEngine ∷ AboveCeiling ∷ TooMany ∷ [])
 
 abbrev pub answers : List (ℕ × ℕ)
 answers =

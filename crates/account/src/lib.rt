@@ -3,6 +3,8 @@
 
 ghost use Rattle.std.specs.Prelude.{◌≡◌, ◌↔◌, ◌≤◌, IsTrue, EachIndex, slice_index};
 ghost use Rattle.record.specs.Records.{records_of};
+ghost use Rattle.account.specs.Accounts.{empty};
+ghost use Rattle.account.specs.Answers.{refused_by};
 ghost use Rattle.account.specs.Ceilings.{within};
 ghost use Rattle.account.specs.Portions.{accounted, engine_or_bad, joined};
 
@@ -53,7 +55,7 @@ pub struct Account {
     pub enginenotm: bool,
 }
 
-// Why there is no account, with its number among the answers, in which 0 is done. Beside judge's: document 01 has a list of each library's own.
+// Why a portion has no account, or two are not joined, with its number among the answers, in which 0 is done. Beside judge's: document 01 has a list of each library's own.
 #[derive(Clone, Copy, PartialEq, Eq)]
 pub enum Refusal {
     // 1: not a multiple of 24 bytes
@@ -68,6 +70,56 @@ pub enum Refusal {
     AboveCeiling,
 }
 
+// A refusal, with the account that it returns, the empty one.
+#[derive(Clone, Copy)]
+pub struct Refused {
+    pub refusal: Refusal,
+    pub account: Account,
+}
+
+// The account of no vehicle. Beside `Gathered::new`, which is of another type: sums by setting, of which an account is made.
+#[tactic(auto, unfolding(crate::specs::Accounts::account_of))]
+fn empty_account() -> Account
+    ensures { result ≡ empty }
+{
+    Account {
+        count: 0,
+        mass: 0,
+        vmass: 0,
+        mmass: 0,
+        length: 0,
+        axles: 0,
+        vaxles: 0,
+        engines: 0,
+        mset: 0,
+        isolated: 0,
+        dloads: 0,
+        leading: 0,
+        trailing: 0,
+        longest: 0,
+        behind: false,
+        rule16: false,
+        rule17: false,
+        rule18: false,
+        slowest: 200,
+        first: [4; 5],
+        vlength: 0,
+        enginemmass: 0,
+        wagonvmass: 0,
+        enginenotm: false,
+    }
+}
+
+// A refusal returns the empty account.
+fn refused_by(refusal: Refusal) -> Refused
+    ensures { result ≡ refused_by refusal }
+{
+    Refused {
+        refusal,
+        account: empty_account(),
+    }
+}
+
 // Refusal 6 of a portion that has a working engine, unless 3 applies.
 fn engine_or_bad(portion: &[u8]) -> Refusal
     ensures { result ≡ engine_or_bad (records_of portion.now) }
@@ -76,23 +128,23 @@ fn engine_or_bad(portion: &[u8]) -> Refusal
 }
 
 // The account of a portion of hauled vehicles.
-pub fn account_of(portion: &[u8]) -> Result<Account, Refusal>
+pub fn account_of(portion: &[u8]) -> Result<Account, Refused>
     ensures { result ≡ accounted portion.now }
 {
     let (records, rest) = portion.as_chunks::<SIZE>();
     if !rest.is_empty() {
-        return Err(Refusal::NotWhole);
+        return Err(refused_by(Refusal::NotWhole));
     }
     if MOST < records.len() {
-        return Err(Refusal::TooMany);
+        return Err(refused_by(Refusal::TooMany));
     }
     let mut gathered = Gathered::new();
     for (i, record) in records.iter().enumerate() {
         let Some(vehicle) = read(record) else {
-            return Err(Refusal::BadField(i));
+            return Err(refused_by(Refusal::BadField(i)));
         };
         if vehicle.kind == Kind::WorkingEngine {
-            return Err(engine_or_bad(portion));
+            return Err(refused_by(engine_or_bad(portion)));
         }
         gathered.add(vehicle);
     }
@@ -132,15 +184,15 @@ pub fn within_ceilings(account: Account) -> bool
 }
 
 // The account of two portions, from their accounts.
-pub fn join(left: Account, right: Account) -> Result<Account, Refusal>
+pub fn join(left: Account, right: Account) -> Result<Account, Refused>
     ensures { result ≡ joined left right }
 {
     if !(within_ceilings(left) & within_ceilings(right)) {
-        return Err(Refusal::AboveCeiling);
+        return Err(refused_by(Refusal::AboveCeiling));
     }
     let account = joining::add(left, right);
     if !within_ceilings(account) {
-        return Err(Refusal::TooMany);
+        return Err(refused_by(Refusal::TooMany));
     }
     Ok(account)
 }

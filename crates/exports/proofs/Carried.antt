@@ -1,7 +1,7 @@
 -- Laws of accounts that come as bytes and go as bytes. Assumes nothing.
 use Rattle.std.proofs.Common.{ℕ, ◌≤◌, ◌≡◌, refl, sym, ap, ap₂, ◌∙◌, Bool, true, false, not, ◌&&◌, ◌||◌, cond, List, [], ◌∷◌, ◌++◌, map, length, take, replicate, arith, length-append, Result, Ok, Err}
 use Rattle.std.specs.Prelude.{IsOk, is_ok, ⊤}
-use Rattle.std.specs.Result.{result_and, result_unwrap_or}
+use Rattle.std.specs.Result.{result_unwrap_or}
 use lib.Seq.{length-take-le}
 use borrow.Author.Tests.{le-ltb}
 use Rattle.lists.specs.Words.{◌is◌, ◌above◌, all}
@@ -11,7 +11,7 @@ use Rattle.record.specs.declared.vehicle.Vehicle.{Vehicle}
 use Rattle.account.specs.Accounts.{account_of}
 use Rattle.account.specs.Ceilings.{within}
 use Rattle.account.specs.Joining.{joining}
-use Rattle.account.specs.Answers.{Answer, refusal}
+use Rattle.account.specs.Answers.{Answer, refusal, unless_refused}
 use Rattle.account.specs.Portions.{accounted, join_refusals, joined}
 use Rattle.account.specs.Groupings.{Grouping, portion, pair, uncut, joined_answers, joined_bytes, BetweenRecords, NoneRefused}
 use Rattle.account.specs.declared.Account.{Account}
@@ -53,7 +53,7 @@ module _ (left right : List ℕ) where
       no_seven true e = omega arith
       no_seven false e = omega arith
 
-      go : (w : Bool) → lent_number (result_and (answered (refusal account-case.TooMany (not w) ∷ [])) (Ok (joining (offered left) (offered right)))) room ≡ 7 → ⊥
+      go : (w : Bool) → lent_number (unless_refused (answered (refusal account-case.TooMany (not w) ∷ [])) (joining (offered left) (offered right))) room ≡ 7 → ⊥
       go true e = no_seven (size above room) e
       go false e = omega arith
 
@@ -62,7 +62,7 @@ module _ (left right : List ℕ) where
   joined_within a e = go (within (offered left) && within (offered right)) (within (joining (offered left) (offered right))) refl e
     where
       go : (p q : Bool) → within (joining (offered left) (offered right)) ≡ q
-          → result_and (answered (refusal account-case.AboveCeiling (not p) ∷ refusal account-case.TooMany (not q) ∷ [])) (Ok (joining (offered left) (offered right))) ≡ Ok a
+          → unless_refused (answered (refusal account-case.AboveCeiling (not p) ∷ refusal account-case.TooMany (not q) ∷ [])) (joining (offered left) (offered right)) ≡ Ok a
           → (a ≡ joining (offered left) (offered right)) × (within a ≡ true)
       go true true w e = let s : a ≡ joining (offered left) (offered right) = cc in (s, ap within s ∙ w)
       go true false w e = absurd cc

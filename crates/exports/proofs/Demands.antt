@@ -53,15 +53,15 @@ account_route_few bs hauled orders room = place_few (account_route bs (offered h
 -- ---- an account that is lent: its own refusals first, then 5, and a refused call writes nothing
 pub own_refusals_first : (r : Answer) (room : List ℕ) → (account.answer_number r ≡ 0 → ⊥) → (lent_number r (length room) ≡ account_number r) × (lent_account r room ≡ room)
 own_refusals_first (Ok given) room h = absurd (h refl)
-own_refusals_first (Err refusal) room h = (refl, refl)
+own_refusals_first (Err refused) room h = (refl, refl)
 
 pub then_five : (r : Answer) (room : List ℕ) → account.answer_number r ≡ 0 → length room < size → (lent_number r (length room) ≡ 5) × (lent_account r room ≡ room)
 then_five (Ok given) room e h = let t = lt-ltb (length room) size h in (rw t refl, rw t refl)
-then_five (Err refusal) room e h = absurd (account_refused refusal e)
+then_five (Err refused) room e h = absurd (account_refused refused.refusal e)
 
 pub done_writes : (r : Answer) (room : List ℕ) → account.answer_number r ≡ 0 → size ≤ length room → (lent_number r (length room) ≡ 0) × (lent_account r room ≡ written_of r ++ drop size room)
 done_writes (Ok given) room e h = let t = le-ltb (length room) size h in (rw t refl, rw t refl)
-done_writes (Err refusal) room e h = absurd (account_refused refusal e)
+done_writes (Err refused) room e h = absurd (account_refused refused.refusal e)
 
 -- ---- bytes that are no account: 7 in its place, and nothing is written
 pub join_seven : (left right room : List ℕ) → (is_account left && is_account right) ≡ false

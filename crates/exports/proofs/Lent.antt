@@ -14,6 +14,7 @@ use Rattle.record.specs.Vehicles.{good, vehicles, is_working}
 use Rattle.record.proofs.Records.{length_records}
 use Rattle.account.specs.Ceilings.{within}
 use Rattle.account.specs.Answers as account
+use Rattle.account.specs.Answers.{refused_place, unless_refused}
 use Rattle.account.specs.Portions.{portion_refusals, accounted, join_refusals, joined}
 use Rattle.account.specs.declared.Account.{Account}
 use Rattle.account.specs.declared.Refusal.{Refusal as Unaccounted}
@@ -124,17 +125,21 @@ unfolding route.account_refusals
 account_route_placed bs hauled orders room = and_placed place_of _ _ (around_account bs hauled (section_refusals orders room) (sections_placed orders room (engine_shape (vehicles bs) hauled) (omega arith)))
 
 -- an account that is lent
-pub portion_placed : (bs : List ℕ) → IsPlaced account.place_of (accounted bs)
+unless_placed : (r : Result ⊤ Unaccounted) (a : Account) → IsPlaced account.place_of r → IsPlaced refused_place (unless_refused r a)
+unless_placed (Ok x) a h = tt
+unless_placed (Err refusal) a h = h
+
+pub portion_placed : (bs : List ℕ) → IsPlaced refused_place (accounted bs)
 unfolding portion_refusals
 portion_placed bs =
-    and_placed account.place_of _ _
+    unless_placed _ _
     (either account.place_of (not (is_whole bs)) account-case.NotWhole _ (omega arith)
     (many_or_bad account.place_of bs (record_count bs) account-case.TooMany (account-case.BadField (leading good (records_of bs))) (not (all good (records_of bs))) _ (omega arith) (omega arith) refl
     (either account.place_of (some is_working (vehicles bs)) account-case.WorkingEngine (Ok tt) (omega arith) tt)))
 
-pub join_placed : (left right : Account) → IsPlaced account.place_of (joined left right)
+pub join_placed : (left right : Account) → IsPlaced refused_place (joined left right)
 unfolding join_refusals
-join_placed left right = and_placed account.place_of _ _ (each_placed account.place_of (join_refusals left right) (omega arith, (omega arith, tt)))
+join_placed left right = unless_placed _ _ (each_placed account.place_of (join_refusals left right) (omega arith, (omega arith, tt)))
 
 -- ---- the vehicle that is lent
 -- all of one list over the front of another

@@ -1,6 +1,7 @@
 -- include/prskavon.h: number + 256 * place + 4294967296 * category, and the room that is needed, case by case.
 use Rattle.std.specs.Prelude.{ℕ, List, [], ◌∷◌, Ok, Err, ⊤}
 use Rattle.account.specs.Accounts.{empty}
+use Rattle.account.specs.Answers.{refused_by}
 use Rattle.account.specs.declared.Refusal.TheVariants as account
 use Rattle.judge.specs.declared.Refusal.TheVariants.{NotWhole, BadField, BadOrder, NothingHauled}
 use Rattle.exports.specs.Lent.{sheet_number, route_number, lent_number}
@@ -17,14 +18,14 @@ answered =
     ∷ route_number (Err (BadOrder 63))
     -- of an account: done, 1, 2, 3 of the last of 200 records, 6, 7
     ∷ lent_number (Ok empty) 128
-    ∷ lent_number (Err account.NotWhole) 128
-    ∷ lent_number (Err account.TooMany) 128
-    ∷ lent_number (Err (account.BadField 199)) 128
-    ∷ lent_number (Err account.WorkingEngine) 128
-    ∷ lent_number (Err account.AboveCeiling) 128
+    ∷ lent_number (Err (refused_by account.NotWhole)) 128
+    ∷ lent_number (Err (refused_by account.TooMany)) 128
+    ∷ lent_number (Err (refused_by (account.BadField 199))) 128
+    ∷ lent_number (Err (refused_by account.WorkingEngine)) 128
+    ∷ lent_number (Err (refused_by account.AboveCeiling)) 128
     -- 5 where 127 bytes are lent for it, behind its own refusals
     ∷ lent_number (Ok empty) 127
-    ∷ lent_number (Err account.AboveCeiling) 127
+    ∷ lent_number (Err (refused_by account.AboveCeiling)) 127
     ∷ []
 
 abbrev pub expected : List ℕ

@@ -2,7 +2,6 @@
 use Rattle.std.specs.Prelude.{ℕ, ◌+◌, ◌*◌, ◌≤◌, ◌≡◌, cond, List, [], ◌++◌, length, drop, Result, Ok, Err, IfErr}
 use Rattle.std.specs.Result.{result_unwrap_or}
 use Rattle.lists.specs.Words.{◌above◌}
-use Rattle.account.specs.Accounts.{empty}
 use Rattle.account.specs.Answers as account
 use Rattle.account.specs.Answers.{Answer}
 use Rattle.account.specs.Portions.{accounted, joined}
@@ -33,16 +32,16 @@ account_number answer = one_number (account.answer_number answer) (account.answe
 -- of an account for a room of so many bytes: its refusals as document 01 orders them, then 5 for a room shorter than an account's bytes
 abbrev pub lent_number : Answer → ℕ → ℕ
 lent_number (Ok given) room = cond (size above room) 5 0
-lent_number (Err refusal) room = account_number (Err refusal)
+lent_number (Err refused) room = account_number (Err refused)
 
 -- a refused call writes nothing; a done call writes as many bytes as an account has, and no other
 abbrev pub lent_account : Answer → List ℕ → List ℕ
 lent_account (Ok given) room = cond (size above length room) room (record_of given ++ drop size room)
-lent_account (Err refusal) room = room
+lent_account (Err refused) room = room
 
--- what is written, call after call, where portions are accounted and their accounts joined as they are grouped; where a call is refused the empty account stands in
+-- what is written, call after call, where portions are accounted and their accounts joined as they are grouped; a call that is refused returned the empty account
 abbrev pub written_of : Answer → List ℕ
-written_of answer = record_of (result_unwrap_or answer empty)
+written_of answer = record_of (account.account_given answer)
 
 abbrev pub carried : Grouping ℕ → List ℕ
 carried (portion bs) = written_of (accounted bs)

@@ -1,9 +1,9 @@
 // An answer as one number; an account, put into the room that a caller lends for it.
-ghost use Rattle.std.specs.Prelude.{◌≡◌, ◌<◌, ◌≤◌, ◌++◌, length, drop, Err};
-ghost use Rattle.account.specs.Answers.{place_of};
-ghost use Rattle.exports.specs.Lent.{IsPlaced, one_number, account_number, lent_number, lent_account};
+ghost use Rattle.std.specs.Prelude.{◌≡◌, ◌<◌, ◌≤◌, ◌++◌, length, drop};
+ghost use Rattle.account.specs.Answers.{number_of, place_of, refused_place};
+ghost use Rattle.exports.specs.Lent.{IsPlaced, one_number, lent_number, lent_account};
 
-use account::{Account, Refusal};
+use account::{Account, Refusal, Refused};
 use travel::{SIZE, record_of};
 
 // Number and place as one number; a place is that of one of 200 records, or of 64 sections.
@@ -17,7 +17,7 @@ pub(crate) fn one_number(number: usize, place: usize) -> u64
 // A refusal of the accounts' library: its numbers, which C has (include/prskavon.h).
 fn account_number(refusal: Refusal) -> u64
     requires { place_of refusal ≤ 200 }
-    ensures { result ≡ account_number (Err refusal) }
+    ensures { result ≡ one_number (number_of refusal) (place_of refusal) }
 {
     match refusal {
         Refusal::NotWhole => 1,
@@ -29,13 +29,13 @@ fn account_number(refusal: Refusal) -> u64
 }
 
 // Writes the account where there is one and it has room, and answers.
-pub(crate) fn lend(given: Result<Account, Refusal>, room: &mut [u8]) -> u64
-    requires { IsPlaced place_of given }
+pub(crate) fn lend(given: Result<Account, Refused>, room: &mut [u8]) -> u64
+    requires { IsPlaced refused_place given }
     ensures value { result ≡ lent_number given (length room.old) }
     ensures room_after { room.new ≡ lent_account given room.old }
 {
     match given {
-        Err(refusal) => account_number(refusal),
+        Err(refused) => account_number(refused.refusal),
         Ok(_) if room.len() < SIZE => 5,
         Ok(account) => {
             copy(&record_of(account), room);

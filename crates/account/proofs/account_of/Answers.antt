@@ -5,13 +5,14 @@ use mathlib.Core.Bool.{Bool, true}
 use lib.Dec.{eqb}
 use Prim.Native.Nat.{ℕ}
 use borrow.Author.Tests.{eqb-false, eqb-true}
-use Rattle.std.specs.Prelude.{Ok, Err}
+use Rattle.std.specs.Prelude.{Ok}
 use Rattle.account.specs.declared.Account.{Account}
-use Rattle.account.specs.declared.Refusal.{Refusal}
+use Rattle.account.specs.Answers.{refused_by}
 use Rattle.lists.specs.Words.{all}
 use Rattle.record.specs.Records.{record_count, records}
 use Rattle.record.specs.Vehicles.{vehicles, is_working}
 use Rattle.record.proofs.Vehicles.{records_more, first_place_lem, good_reading, bad_reading}
+use Rattle.account.proofs.Joins.{refused_is}
 use Rattle.account.proofs.Gathers.{each_more, gathered_more, room}
 use Rattle.account.proofs.Portions.{read_at, Turn, turn, none_working, working_there, answer_1, answer_2, answer_3, answer_6, answer_0}
 use borrow.Author.Rules.{rules}
@@ -23,11 +24,12 @@ whole : {k n : ℕ} {b : Bool} → k ≡ n → b ≡ eqb k 0 → b ≡ true → 
 whole e f t = sym e ∙ eqb-true _ 0 (sym f ∙ t)
 
 pub returns-then-not-is_empty : goal.returns-then-not-is_empty
-returns-then-not-is_empty c = answer_1 _ (λ e. eqb-false _ 0 (sym c.is_empty.ensures ∙ c.if-not-is_empty.true) (c.as_chunks.ensures.back_len ∙ e))
+returns-then-not-is_empty c = refused_is c.refused_by.ensures ∙ answer_1 _ (λ e. eqb-false _ 0 (sym c.is_empty.ensures ∙ c.if-not-is_empty.true) (c.as_chunks.ensures.back_len ∙ e))
 
 pub returns-then-records-gt-MOST : goal.returns-then-records-gt-MOST
 returns-then-records-gt-MOST c =
-    answer_2 _ (whole c.as_chunks.ensures.back_len c.is_empty.ensures c.if-not-is_empty.false) (omega (arith, c.as_chunks.ensures.front_len, c.if-records-gt-MOST.true))
+    refused_is c.refused_by-then-records-gt-MOST.ensures
+    ∙ answer_2 _ (whole c.as_chunks.ensures.back_len c.is_empty.ensures c.if-not-is_empty.false) (omega (arith, c.as_chunks.ensures.front_len, c.if-records-gt-MOST.true))
 
 pub loop-i-init : goal.loop-i-init
 unfolding all records
@@ -38,7 +40,8 @@ returns-in_default c =
     let bs = c.args.portion.now in
     let i = c.loop-i.i in
     let none = read_at bs _ i _ c.as_chunks.ensures.front (omega (arith, c.as_chunks.ensures.front_len)) c.in_default.ensures in
-    answer_3 bs (whole c.as_chunks.ensures.back_len c.is_empty.ensures c.if-not-is_empty.false) (omega (arith, c.as_chunks.ensures.front_len)) i
+    refused_is c.refused_by-in_default.ensures
+    ∙ answer_3 bs (whole c.as_chunks.ensures.back_len c.is_empty.ensures c.if-not-is_empty.false) (omega (arith, c.as_chunks.ensures.front_len)) i
     (first_place_lem _ i bs (omega (arith, c.as_chunks.ensures.front_len)) c.loop-i.invariant.fine (bad_reading _ none))
 
 pub returns-then-eq : goal.returns-then-eq
@@ -47,7 +50,7 @@ returns-then-eq c =
     let i = c.loop-i.i in
     let w : c.eq.result ≡ is_working c.in-Some.vehicle = search rules in
     let g = good_reading _ _ (read_at bs _ i _ c.as_chunks.ensures.front (omega (arith, c.as_chunks.ensures.front_len)) c.in-Some.ensures) in
-    ap (λ (r : Refusal). Err r) c.engine_or_bad.ensures
+    refused_is (c.refused_by-then-eq.ensures ∙ ap refused_by c.engine_or_bad.ensures)
     ∙ answer_6 bs (whole c.as_chunks.ensures.back_len c.is_empty.ensures c.if-not-is_empty.false) (omega (arith, c.as_chunks.ensures.front_len))
     (working_there bs i (omega (arith, c.as_chunks.ensures.front_len)) (sym (ap is_working g.1) ∙ sym w ∙ c.if-eq.true))
 

@@ -6,11 +6,13 @@ use Rattle.account.specs.Ceilings.{within}
 use Rattle.std.specs.Prelude.{Ok}
 use Rattle.account.specs.declared.Account.{Account}
 use Rattle.account.proofs.Ceils.{test_within}
-use Rattle.account.proofs.Joins.{joined_above, joined_many, joined_done}
+use Rattle.account.proofs.Joins.{refused_is, joined_above, joined_many, joined_done}
 use Rattle.account.proofs.join.Goals as goal
 
 pub returns-then-not-within_ceilings : goal.returns-then-not-within_ceilings
-returns-then-not-within_ceilings c = joined_above _ _ (sym (ap₂ ◌&&◌ c.within_ceilings.ensures c.within_ceilings-2.ensures) ∙ c.if-not-within_ceilings.true)
+returns-then-not-within_ceilings c =
+    refused_is c.refused_by.ensures
+    ∙ joined_above _ _ (sym (ap₂ ◌&&◌ c.within_ceilings.ensures c.within_ceilings-2.ensures) ∙ c.if-not-within_ceilings.true)
 
 pub add-account-requires : goal.add-account-requires
 add-account-requires c =
@@ -20,7 +22,8 @@ add-account-requires c =
 
 pub returns-then-not-within_ceilings-2 : goal.returns-then-not-within_ceilings-2
 returns-then-not-within_ceilings-2 c =
-    joined_many _ _
+    refused_is c.refused_by-then-not-within_ceilings-2.ensures
+    ∙ joined_many _ _
     (sym (ap₂ ◌&&◌ c.within_ceilings.ensures c.within_ceilings-2.ensures) ∙ c.if-not-within_ceilings.false)
     (ap within (sym c.add-account.ensures) ∙ sym c.within_ceilings-3.ensures ∙ c.if-not-within_ceilings-2.true)
 
