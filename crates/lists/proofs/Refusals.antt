@@ -2,13 +2,13 @@
 use Prim.Native.Nat.{ℕ, zero, suc, ◌<◌}
 use native.Mathlib.Nat.{not-suc-le-zero, le_of_suc-le-suc}
 use native.Mathlib.Omega.{arith}
-use mathlib.Core.Path.{◌≡◌, refl}
+use mathlib.Core.Path.{◌≡◌, refl, ap}
 use mathlib.Core.Bool.{Bool, true, false, cond, false≢true}
-use mathlib.Core.List.{List, [], ◌∷◌, ◌++◌}
+use mathlib.Core.List.{List, [], ◌∷◌, ◌++◌, map}
 use lib.ListN.{length}
-use Rattle.std.specs.Prelude.{Ok, Err, is_ok}
+use Rattle.std.specs.Prelude.{Result, Ok, Err, is_ok, ⊤}
 use Rattle.std.specs.Result.{result_and}
-use Rattle.lists.specs.Words.{Every, Case, case_at}
+use Rattle.lists.specs.Words.{Every, Case, case_at, first_of}
 use Rattle.lists.specs.Refusals.{answered}
 
 module _ {E : Type 0} where
@@ -31,6 +31,11 @@ module _ {E : Type 0} where
           → (c.applies ≡ false) × Every (λ c. c.applies ≡ false) cs
       go true q e rest = absurd (false≢true e)
       go false q e rest = (q, rest e)
+
+  -- and it is the first that applies, as of rules
+  pub answered_first : (cs : List (Case E)) → answered cs ≡ first_of (Ok tt) (map (λ (c : Case E). record { gives = Err c.gives; applies = c.applies }) cs)
+  answered_first [] = refl
+  answered_first (c ∷ cs) = ap (λ (r : Result ⊤ E). cond c.applies (Err c.gives) r) (answered_first cs)
 
   -- a list behind another is asked where that one refuses nothing
   pub answered_append : (cs ds : List (Case E)) → answered (cs ++ ds) ≡ result_and (answered cs) (answered ds)
