@@ -3,7 +3,7 @@ use Prim.Native.Nat.{ℕ, ◌≤◌, ◌<◌}
 use native.Mathlib.Omega.{arith}
 use mathlib.Core.Path.{◌≡◌, refl}
 use mathlib.Core.Bool.{true, false, not, ◌&&◌, cond}
-use Rattle.std.specs.Prelude.{Option}
+use Rattle.std.specs.Prelude.{Option, None}
 use mathlib.Core.List.{List, [], ◌∷◌, ◌++◌, map}
 use mathlib.Core.Logic.{◌⊎◌}
 use lib.IntN.{pos}
@@ -140,6 +140,13 @@ stands_exactly = offers.stands_exactly
 -- where none stands none is granted
 pub none_exactly : (asked : ℕ) (os : List Offer) (g : Option Best) → Granted asked os g → ((n s : ℕ) → Stands asked os n s → ⊥) → granted_number g ≡ 0
 none_exactly = grants.none_exactly
+
+pub nothing_exactly : (asked : ℕ) (os : List Offer) (g : Option Best) → Granted asked os g → ((n s : ℕ) → Stands asked os n s → ⊥) → g ≡ None
+nothing_exactly = grants.nothing_exactly
+
+-- and what is granted is one answer alone
+pub granted_alone : (asked : ℕ) (os : List Offer) (g h : Option Best) → Granted asked os g → Granted asked os h → g ≡ h
+granted_alone = grants.granted_alone
 
 -- a category that a book does not have is passed over, whatever its number and speed
 pub absent_passed : (asked n speed : ℕ) (rest : Option Best) → better_of asked (offer n speed absent_rule) rest ≡ rest

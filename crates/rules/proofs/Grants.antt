@@ -23,7 +23,7 @@ module _ (asked : ℕ) where
 
   -- the first does not stand, or is slower
   pass : (x : Offer) (os : List Offer) (g : Option Best) → ((stands asked x ≡ true) → x.speed < granted_speed g) → Granted asked os g → Granted asked (x ∷ os) g
-  pass x os g f w = record { none = none; no_speed = w.no_speed; one = λ z. inr (w.one z); fastest = fast; lowest = low }
+  pass x os g f w = record { none = none; no_speed = w.no_speed; nothing = w.nothing; one = λ z. inr (w.one z); fastest = fast; lowest = low }
     where
       none : granted_number g ≡ 0 → (n s : ℕ) → Stands asked (x ∷ os) n s → ⊥
       none z n s (inl v) = let p = f v.0 in let q = w.no_speed z in omega arith
@@ -41,7 +41,7 @@ module _ (asked : ℕ) where
   take_first : (m : ℕ) (x : Offer) (os : List Offer) (g : Option Best) → stands asked x ≡ true → m < x.number → Rising x.number os → granted_speed g ≤ x.speed → Granted asked os g
       → Granted asked (x ∷ os) (Some (record { number = x.number; speed = x.speed }))
   take_first m x os g b p r f w =
-      record { none = λ z n s v. omega arith; no_speed = λ z. absurd (omega arith); one = λ z. inl (b, refl, refl); fastest = fast; lowest = low }
+      record { none = λ z n s v. omega arith; no_speed = λ z. absurd (omega arith); nothing = λ z. absurd (omega arith); one = λ z. inl (b, refl, refl); fastest = fast; lowest = low }
     where
       fast : (n s : ℕ) → Stands asked (x ∷ os) n s → s ≤ x.speed
       fast n s (inl v) = let q = v.2 in omega arith
@@ -54,7 +54,7 @@ module _ (asked : ℕ) where
   -- what is computed is granted
   pub best_granted : (m : ℕ) (os : List Offer) → Rising m os → Granted asked os (best_of asked os)
   best_granted m [] r =
-      record { none = λ z n s w. w; no_speed = λ z. refl; one = λ z. absurd (omega arith); fastest = λ n s w. absurd w; lowest = λ n s w e. absurd w }
+      record { none = λ z n s w. w; no_speed = λ z. refl; nothing = λ z. refl; one = λ z. absurd (omega arith); fastest = λ n s w. absurd w; lowest = λ n s w e. absurd w }
   best_granted m (x ∷ os) r = go (stands asked x) refl (best_of asked os) (best_granted x.number os r.1)
     where
       go : (b : Bool) → stands asked x ≡ b → (g : Option Best) → Granted asked os g → Granted asked (x ∷ os) (cond (b && none_faster x.speed g) (Some (record { number = x.number; speed = x.speed })) g)
@@ -77,6 +77,31 @@ module _ (asked : ℕ) where
       go : (granted_number g ≡ 0) ⊎ (0 < granted_number g) → granted_number g ≡ 0
       go (inl p) = p
       go (inr p) = absurd (f (granted_number g) (granted_speed g) (w.one p))
+
+  -- and then the answer is that there is none
+  pub nothing_exactly : (os : List Offer) (g : Option Best) → Granted asked os g → ((n s : ℕ) → Stands asked os n s → ⊥) → g ≡ None
+  nothing_exactly os g w f = w.nothing (none_exactly os g w f)
+
+  -- so no second answer is granted
+  same_number : (a b : Option Best) → granted_number a ≡ granted_number b → granted_speed a ≡ granted_speed b → (granted_number a ≡ 0 → a ≡ None) → (granted_number b ≡ 0 → b ≡ None) → a ≡ b
+  same_number None None n s p q = refl
+  same_number None (Some b) n s p q = sym (q (sym n))
+  same_number (Some a) None n s p q = p n
+  same_number (Some a) (Some b) n s p q = λ i. Some (record { number = n i; speed = s i })
+
+  pub granted_alone : (os : List Offer) (g h : Option Best) → Granted asked os g → Granted asked os h → g ≡ h
+  granted_alone os g h v w = go (zero_or (granted_number g)) (zero_or (granted_number h))
+    where
+      go : (granted_number g ≡ 0) ⊎ (0 < granted_number g) → (granted_number h ≡ 0) ⊎ (0 < granted_number h) → g ≡ h
+      go (inl p) (inl q) = v.nothing p ∙ sym (w.nothing q)
+      go (inl p) (inr q) = absurd (v.none p (granted_number h) (granted_speed h) (w.one q))
+      go (inr p) (inl q) = absurd (w.none q (granted_number g) (granted_speed g) (v.one p))
+      go (inr p) (inr q) =
+          let a = v.one p in
+          let b = w.one q in
+          let speed : granted_speed g ≡ granted_speed h = omega (arith, w.fastest (granted_number g) (granted_speed g) a, v.fastest (granted_number h) (granted_speed h) b) in
+          let number : granted_number g ≡ granted_number h = omega (arith, v.lowest (granted_number h) (granted_speed h) b (sym speed), w.lowest (granted_number g) (granted_speed g) a speed) in
+          same_number g h number speed v.nothing w.nothing
 
   -- gone through from the last offer to the first
   pub best_from_last : (os : List Offer) → fold (λ rest x. better_of asked x rest) None (reverse os) ≡ best_of asked os

@@ -102,6 +102,8 @@ pub record Granted (asked : ℕ) (offers : List Offer) (g : Option Best) : Type 
   -- 0 is granted, at speed 0, only where none stands
   pub none : granted_number g ≡ 0 → (n s : ℕ) → Stands asked offers n s → ⊥
   pub no_speed : granted_number g ≡ 0 → granted_speed g ≡ 0
+  -- and then there is none, so that one answer alone is granted
+  pub nothing : granted_number g ≡ 0 → g ≡ None
   -- any other number is that of one that stands
   pub one : 0 < granted_number g → Stands asked offers (granted_number g) (granted_speed g)
   -- none that stands is faster, and none as fast has a lower number

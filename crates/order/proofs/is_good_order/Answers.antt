@@ -1,5 +1,5 @@
 -- `order::is_good_order` meets its contract: the code's table is the book's, and each field of it is placed, so its ranges are asked. Assumes nothing.
-use mathlib.Core.Path.{◌≡◌, refl, sym, ap, ◌∙◌}
+use mathlib.Core.Path.{◌≡◌, sym, ap, ◌∙◌}
 use mathlib.Core.Bool.{Bool}
 use mathlib.Core.List.{List}
 use Prim.Native.Nat.{ℕ}
@@ -9,6 +9,7 @@ use Rattle.order.specs.Orders.{book_in, fields_of, good_order}
 use Rattle.order.specs.declared.Book.{Book}
 use Rattle.order.specs.declared.Book.TheVariants.{CrossBorder, Domestic}
 use Rattle.order.proofs.Orders.{all_placed}
+use Rattle.order.proofs.Demands.{order_rows}
 use Rattle.order.proofs.is_good_order.Goals as goal
 
 by_book : (r : List ℕ) (b : Book) (t : List Field) (x : Bool) → t ≡ fields_of b → book_in r ≡ b → x ≡ good_by t r → x ≡ good_order r
@@ -20,7 +21,7 @@ by_book r b t x table book e =
     ∙ ap (λ (b : Book). in_ranges (fields_of b) r) (sym book)
 
 pub returns-in-CrossBorder : goal.returns-in-CrossBorder
-returns-in-CrossBorder c = by_book c.args.order.now CrossBorder _ _ refl (sym c.in-CrossBorder.ensures) c.is_in_ranges.ensures
+returns-in-CrossBorder c = by_book c.args.order.now CrossBorder _ _ order_rows.0 (sym c.in-CrossBorder.ensures) c.is_in_ranges.ensures
 
 pub returns-in-Domestic : goal.returns-in-Domestic
-returns-in-Domestic c = by_book c.args.order.now Domestic _ _ refl (sym c.in-Domestic.ensures) c.is_in_ranges-in-Domestic.ensures
+returns-in-Domestic c = by_book c.args.order.now Domestic _ _ order_rows.1 (sym c.in-Domestic.ensures) c.is_in_ranges-in-Domestic.ensures
