@@ -5,16 +5,16 @@ use mathlib.Core.Bool.{Bool, true, false, ◌&&◌, cond}
 use mathlib.Core.List.{List, [], ◌∷◌, ◌++◌, append_assoc, map}
 use native.Mathlib.Nat.{div-div-eq-div-mul}
 use native.Mathlib.Omega.{arith}
-use borrow.Author.Tests.{leb-true, leb-false, le-leb, lt-leb, eqb-true, eq-eqb, ne_eqb}
+use borrow.Author.Tests.{leb-true, leb-false, le-leb, lt-leb, eq-eqb, ne_eqb}
 use lib.ListN.{length, take, drop}
 use lib.Seq.{drop-drop, sets}
 use borrow.Rule.Slice.PartMut.{put_mid}
 use Rattle.std.specs.Int.{w32, to_le_bytes}
-use Rattle.std.specs.List.{list_all}
+use Rattle.std.specs.List.{fold, list_all}
 use Rattle.std.proofs.lemmas.List.Edits.{sets-eq}
 use Rattle.lists.specs.Words.{◌is◌, ◌at_most◌, all, Every}
 use Rattle.lists.specs.Numbers.{little_endian}
-use Rattle.lists.proofs.Lists.{both, all_list}
+use Rattle.lists.proofs.Lists.{all_list}
 use Rattle.account.specs.Ceilings.{within, Within}
 use Rattle.account.specs.declared.Account.{Account}
 use Rattle.account.proofs.Demands.{figure_at_lem}
@@ -30,6 +30,16 @@ four_put l at n x ys e h fits same =
     ∙ sym (sets-eq (figure_bytes x) l at h)
 
 -- ---- what bytes offer, by the code's tests
+-- every member is asked, though one before it was told no
+pub all_folded : (p : ℕ → Bool) (xs : List ℕ) → fold (λ so_far x. so_far && p x) true xs ≡ list_all p xs
+all_folded p = go true
+  where
+    go : (b : Bool) (xs : List ℕ) → fold (λ so_far x. so_far && p x) b xs ≡ (b && list_all p xs)
+    go true [] = refl
+    go false [] = refl
+    go true (x ∷ xs) = go (p x) xs
+    go false (x ∷ xs) = go false xs
+
 module _ (bs : List ℕ) where
   pub plain_short : (length bs ≡ size → ⊥) → false ≡ is_plain bs
   unfolding is_plain

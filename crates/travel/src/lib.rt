@@ -60,12 +60,15 @@ fn account_in(bytes: &[u8; SIZE]) -> Account
     }
 }
 
-// Whether no mark is above 1 and no unused byte above 0.
+// Whether no mark is above 1 and no unused byte above 0. Each unused byte is asked, with no stop at the first: so they go sixteen at a time.
 fn is_plain(bytes: &[u8; SIZE]) -> bool
     ensures { result ≡ is_plain bytes.now }
 {
     let marks = [bytes[56], bytes[57], bytes[58], bytes[59], bytes[81]];
-    marks.iter().all(|mark| *mark <= 1) & bytes[UNUSED..].iter().all(|byte| *byte == 0)
+    marks.iter().all(|mark| *mark <= 1)
+        & bytes[UNUSED..]
+            .iter()
+            .fold(true, |unused, byte| unused & (*byte == 0))
 }
 
 // Bytes whose account is above its ceiling, and no None: of what C lends, 7 refuses what is no account (`offered`).

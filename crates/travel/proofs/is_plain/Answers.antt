@@ -2,12 +2,14 @@
 use Rattle.std.proofs.Common.{rules, ◌≡◌, ◌&&◌, ap₂, ◌∙◌, arith}
 use lib.ListN.{take, length-drop}
 use lib.Seq.{take_all}
-use Rattle.std.specs.List.{list_all}
+use mathlib.Core.Bool.{true}
+use Rattle.std.specs.List.{fold, list_all}
 use Rattle.std.proofs.lemmas.Iterator.{YieldsList-from_slice}
 use Rattle.std.proofs.lemmas.Iterator.Search.{all_from_yields_List}
+use Rattle.std.proofs.lemmas.Iterator.Consumers.{fold_from_yields_List}
 use Rattle.lists.specs.Words.{◌is◌, ◌at_most◌}
 use Rattle.travel.specs.AccountRecords.{marks_in, unused_in}
-use Rattle.travel.proofs.AccountRecords.{plain_long}
+use Rattle.travel.proofs.AccountRecords.{all_folded, plain_long}
 use Rattle.travel.proofs.is_plain.Goals as goal
 
 pub returns : goal.returns
@@ -15,5 +17,5 @@ returns c =
     let bs = c.args.bytes.now in
     let marks : c.all.result ≡ list_all (λ m. m at_most 1) (marks_in bs) = all_from_yields_List (λ m. m at_most 1) _ _ c.all.result c.all.ensures.ran (YieldsList-from_slice (marks_in bs) cc) (λ x b q k. search rules) in
     let rest : take 46 (unused_in bs) ≡ unused_in bs = take_all 46 (unused_in bs) (simp length-drop (omega arith)) in
-    let unused : c.all-2.result ≡ list_all (λ u. u is 0) (unused_in bs) = all_from_yields_List (λ u. u is 0) _ _ c.all-2.result c.all-2.ensures.ran (YieldsList-from_slice (unused_in bs) (c.iter-2.ensures.rest ∙ rest)) (λ x b q k. search rules) in
-    ap₂ ◌&&◌ marks unused ∙ plain_long bs (omega arith)
+    let unused : c.fold.result ≡ fold (λ u b. u && b is 0) true (unused_in bs) = fold_from_yields_List _ (λ u b. u && b is 0) true c.fold.result c.fold.ensures.ran (YieldsList-from_slice (unused_in bs) (c.iter-2.ensures.rest ∙ rest)) (λ u x b q k. search rules) in
+    ap₂ ◌&&◌ marks (unused ∙ all_folded (λ u. u is 0) (unused_in bs)) ∙ plain_long bs (omega arith)

@@ -9,6 +9,8 @@ use Rattle.travel.proofs.offered_by.Goals.{in_default-via-in-Some+else-is_plain,
 pub returns-in-Some : goal.returns-in-Some
 returns-in-Some c = c.account_in.ensures ∙ offered_plain c.args.bytes.now c.in-Some.bytes.now c.in-Some.ensures.cases.same (sym c.if-is_plain.ensures)
 
+-- bytes that are no 128,
+-- or not plain, offer one above its ceiling
 pub returns-in_default : goal.returns-in_default
 returns-in_default c =
     let bs = c.args.bytes.now in
