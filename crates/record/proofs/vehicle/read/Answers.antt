@@ -15,7 +15,8 @@ pub returns-in_err-bytes : goal.returns-in_err-bytes
 returns-in_err-bytes c =
     c.from_residual.ensures ∙ reading_bad c.args.bytes.now (length_bad c.args.bytes.now c.in_err-bytes.ensures.cases)
 
--- the scan of one record finds none where it is good
+-- the scan of one record finds none where it is good,
+-- and one where it is not
 alone : (r : List ℕ) (o : Option ℕ) → length r ≡ 24 → o ≡ first_bad (records_of r) → is_some o ≡ not (good r)
 alone r o l e = ap is_some e ∙ some_is (first_bad (records_of r)) ∙ ap not (alone_good r l)
   where
