@@ -32,7 +32,7 @@ pub(crate) struct Family {
 }
 
 impl Family {
-    // Put where it is called, as what follows is: the rules of the other family then fall away, an eighth of what a book decides.
+    // Put where it is called, as what follows is: the rules of the other family then fall away, a twelfth of what a book decides.
     #[inline(always)]
     pub(crate) fn new(isg: bool, weigh: Weigh, f: Facts, o: Order) -> Family
         ensures { (result.isg ≡ isg) × (result.weigh ≡ weigh) × (result.facts ≡ f) × (result.order ≡ o) }
