@@ -137,8 +137,8 @@ pub stands_exactly : (asked : ℕ) (x : Offer)
     × (asked ≤ x.number → x.broken ≡ 0 → stands asked x ≡ true)
 stands_exactly = offers.stands_exactly
 
--- where none stands none is granted
-pub none_exactly : (asked : ℕ) (os : List Offer) (g : Option Best) → Granted asked os g → ((n s : ℕ) → Stands asked os n s → ⊥) → granted_number g ≡ 0
+-- where none stands none is granted; it asks no more of what is granted than that it stands
+pub none_exactly : (asked : ℕ) (os : List Offer) (g : Option Best) → (0 < granted_number g → Stands asked os (granted_number g) (granted_speed g)) → ((n s : ℕ) → Stands asked os n s → ⊥) → granted_number g ≡ 0
 none_exactly = grants.none_exactly
 
 pub nothing_exactly : (asked : ℕ) (os : List Offer) (g : Option Best) → Granted asked os g → ((n s : ℕ) → Stands asked os n s → ⊥) → g ≡ None
@@ -186,7 +186,7 @@ module _ (b : RuleBook) (f : Facts) (o : Order) where
 
     pub all_broken : ((c : Category) → Among c b.rows → MayBeGranted b f o c → ⊥) → granted_number (granted_of b f o) ≡ 0
     all_broken h =
-        grants.none_exactly o.asked _ (granted_of b f o) (is_granted b f o sound.rising)
+        grants.none_exactly o.asked _ (granted_of b f o) (is_granted b f o sound.rising).one
         (λ n s w. let x = offered_may b f o n s w in h x.category x.among x.may)
 
     -- and then there is no speed

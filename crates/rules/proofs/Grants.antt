@@ -70,17 +70,17 @@ module _ (asked : ℕ) where
   zero_or zero = inl refl
   zero_or (suc n) = inr (omega arith)
 
-  -- none is granted exactly when none stands
-  pub none_exactly : (os : List Offer) (g : Option Best) → Granted asked os g → ((n s : ℕ) → Stands asked os n s → ⊥) → granted_number g ≡ 0
-  none_exactly os g w f = go (zero_or (granted_number g))
+  -- none is granted exactly when none stands; of `Granted` the field `one` is asked alone
+  pub none_exactly : (os : List Offer) (g : Option Best) → (0 < granted_number g → Stands asked os (granted_number g) (granted_speed g)) → ((n s : ℕ) → Stands asked os n s → ⊥) → granted_number g ≡ 0
+  none_exactly os g one f = go (zero_or (granted_number g))
     where
       go : (granted_number g ≡ 0) ⊎ (0 < granted_number g) → granted_number g ≡ 0
       go (inl p) = p
-      go (inr p) = absurd (f (granted_number g) (granted_speed g) (w.one p))
+      go (inr p) = absurd (f (granted_number g) (granted_speed g) (one p))
 
   -- and then the answer is that there is none
   pub nothing_exactly : (os : List Offer) (g : Option Best) → Granted asked os g → ((n s : ℕ) → Stands asked os n s → ⊥) → g ≡ None
-  nothing_exactly os g w f = w.nothing (none_exactly os g w f)
+  nothing_exactly os g w f = w.nothing (none_exactly os g w.one f)
 
   -- so no second answer is granted
   same_number : (a b : Option Best) → granted_number a ≡ granted_number b → granted_speed a ≡ granted_speed b → (granted_number a ≡ 0 → a ≡ None) → (granted_number b ≡ 0 → b ≡ None) → a ≡ b

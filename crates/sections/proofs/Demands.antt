@@ -137,7 +137,7 @@ module _ (b : RuleBook) (f : Facts) where
 
     pub all_broken : ((c : Category) → Among c b.rows → asked_on os ≤ c.number → BreaksOn b f os c) → granted_number (granted_on b f os) ≡ 0
     all_broken h =
-        rules.none_exactly (asked_on os) _ (granted_on b f os) (routes.is_granted b f os sound.rising)
+        rules.none_exactly (asked_on os) _ (granted_on b f os) (routes.is_granted b f os sound.rising).one
         (λ n s w.
         let x = routes.offered_may b f os n s w in
         routes.breaks_not_may b f os x.category (h x.category x.among x.may.asked) x.may)
